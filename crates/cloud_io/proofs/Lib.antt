@@ -1,0 +1,4 @@
+pub mod Endings
+pub mod OpenFiles
+pub mod Pieces
+pub mod Prefixes

@@ -1,0 +1,44 @@
+ghost use Rattle.std.specs.Prelude.{◌≡◌, ℕ, ◌≤◌, Option, IsSome};
+ghost use Rattle.std.specs.Io.{ReadsAtMost};
+ghost use Rattle.cloud_io.specs.Counts.{HasCause, HasCauses};
+
+use crate::faults::{Failed, OpenFault};
+
+/// Files that can be read, by their names.
+///
+/// A count of faults and a count of missing names tell why a call failed: they never fall, and such an
+/// answer comes only where its count rose. A count that stands at 2^64 - 1, the end of its type, counts
+/// as risen.
+pub trait Inputs: Send {
+    ghost use Rattle.cloud_io.specs.Files.{Folder, Opened, AgreesWith, Opens, Gives, Moves};
+
+    /// The bytes of each name, or None where they are not told.
+    ghost files: { Self → Option Folder };
+
+    /// The name of each opened file, and the place in it.
+    ghost opened: { Self → Opened };
+
+    /// How often a call failed.
+    ghost faults: { Self → ℕ };
+
+    /// How often a name was missing.
+    ghost missing: { Self → ℕ };
+
+    /// Opens the file of the name, at place 0, and answers its number.
+    fn open_input(&mut self, name: &str) -> Result<u64, OpenFault>
+        ensures files { files self.new ≡ files self.old }
+        ensures opens { Opens (opened self.old) (opened self.new) name.now result }
+        ensures agrees { AgreesWith (files self.old) name.now result }
+        ensures causes { HasCauses (faults self.old) (faults self.new) (missing self.old) (missing self.new) OpenFault.Failed OpenFault.NoFile result };
+
+    /// Reads the next bytes of an opened file to the front of `buf`, and answers how many. For a `buf`
+    /// that is not empty 0 means the end.
+    fn read(&mut self, file: u64, buf: &mut [u8]) -> Result<usize, Failed>
+        requires { IsSome (opened self.old file) }
+        ensures files { files self.new ≡ files self.old }
+        ensures bound { ReadsAtMost result buf.new }
+        ensures moves { Moves (opened self.old) (opened self.new) file result }
+        ensures gives { Gives (files self.old) (opened self.old) file result buf.new }
+        ensures missing { missing self.old ≤ missing self.new }
+        ensures cause { HasCause (faults self.old) (faults self.new) result };
+}

@@ -1,0 +1,5 @@
+pub mod Batches
+pub mod Cubes
+pub mod Paths
+pub mod Points
+pub mod Refusals

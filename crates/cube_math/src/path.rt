@@ -1,0 +1,66 @@
+ghost use Rattle.std.specs.Prelude.{◌≡◌, ◌<◌, ◌++◌, ◌∷◌, [], length, slice_get, Some};
+
+use std::marker::Model;
+
+/// The octants from the root to a node.
+#[derive(Clone, Copy, Debug, PartialEq, Eq, PartialOrd, Ord)]
+pub struct Path {
+    octants: [u8; 24],
+    len: u8,
+}
+
+impl Model for Path {
+    ghost use Rattle.std.specs.Prelude.{List, ℕ};
+    ghost use Rattle.std.specs.Coded.{coded_list, coded_ℕ};
+
+    ghost Value = { List ℕ };
+
+    ghost coded = { coded_list coded_ℕ };
+
+    ghost use Rattle.cube_math.specs.Paths.{octants_of, path_of, IsKept, path_back};
+
+    ghost view = { octants_of };
+
+    ghost invariant = { IsKept };
+
+    ghost inverse = { path_of };
+
+    ghost inverse_ok = { path_back };
+}
+
+impl Path {
+    pub fn root() -> Path
+        ensures { result ≡ [] }
+    {
+        Path {
+            octants: [0; 24],
+            len: 0,
+        }
+    }
+
+    pub fn len(&self) -> u32
+        ensures { result ≡ length self.now }
+    {
+        u32::from(self.len)
+    }
+
+    pub fn octant(&self, i: u32) -> u8
+        requires { i < length self.now }
+        ensures { slice_get self.now i ≡ Some result }
+    {
+        self.octants[i as usize]
+    }
+
+    pub fn child(&self, octant: u8) -> Path
+        requires below { octant < 8 }
+        requires room { length self.now < 24 }
+        ensures { result ≡ self.now ++ octant ∷ [] }
+    {
+        let mut octants = self.octants;
+        octants[usize::from(self.len)] = octant;
+        Path {
+            octants,
+            len: self.len + 1,
+        }
+    }
+}

@@ -1,0 +1,5 @@
+pub mod AscendingLaws
+pub mod BagLaws
+pub mod CountLaws
+pub mod NumberLaws
+pub mod OctreeLaws

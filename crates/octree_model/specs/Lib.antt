@@ -1,0 +1,7 @@
+pub mod Bags
+pub mod Counts
+pub mod Numbers
+pub mod Octree
+pub mod Outlines
+pub mod Shapes
+pub mod Voxels

@@ -1,0 +1,13 @@
+//! What the octree of a list of points is: the data types that definitions speak of, the definitions
+//! (in `specs/`), and laws about them as small public functions.
+#![tactic(auto)]
+
+mod laws;
+mod outline;
+mod tree;
+mod voxel;
+
+pub use laws::leaves_keep_points;
+pub use outline::OutlineNode;
+pub use tree::{InnerNode, Points, Tree};
+pub use voxel::Voxel;

@@ -1,0 +1,5 @@
+pub mod CellSets
+pub mod Descent
+pub mod Fitting
+pub mod Listing
+pub mod Sampling

@@ -1,0 +1,111 @@
+ghost use Rattle.std.specs.Prelude.{◌≡◌, ◌<◌, ◌≤◌, IsTrue, IfOk, OnOk, All, map, vec_items, replicate, []};
+ghost use Rattle.cube_math.specs.Cubes.{contains, child};
+ghost use Rattle.octree_model.specs.Numbers.{up_to};
+ghost use Rattle.octree_model.specs.Octree.{octree, inside};
+
+use crate::sampling::Sampler;
+use cube_math::{Cube, Point};
+use octree_model::{InnerNode, Points, Tree};
+use std::alloc::{AllocError, Global};
+
+/// The octree of the points, in which a node with more than `leaf` points is split down to cubes of 7 bits.
+pub fn build(
+    alloc: Global,
+    points: &[Point],
+    cube: Cube,
+    leaf: u32,
+) -> Result<Tree, AllocError>
+    requires contained { All (λ p. IsTrue (contains cube p)) points.now }
+    requires leaf { 1 ≤ leaf }
+    ensures { IfOk result (λ tree. tree ≡ octree leaf cube points.now) }
+{
+    build_from(alloc, points.to_vec(alloc)?, cube, leaf)
+}
+
+/// As `build`, of points that it takes. It lets each node's list go once its points are spread over the
+/// children, and so holds the points at most twice.
+pub fn build_from(
+    alloc: Global,
+    points: Vec<Point>,
+    cube: Cube,
+    leaf: u32,
+) -> Result<Tree, AllocError>
+    requires contained { All (λ p. IsTrue (contains cube p)) points.items }
+    requires leaf { 1 ≤ leaf }
+    ensures { IfOk result (λ tree. tree ≡ octree leaf cube points.items) }
+{
+    let mut sampler = Sampler::new(alloc)?;
+    grow(alloc, &mut sampler, points, cube, leaf)
+}
+
+/// The octree of a node's points.
+fn grow(
+    alloc: Global,
+    sampler: &mut Sampler,
+    points: Vec<Point>,
+    cube: Cube,
+    leaf: u32,
+) -> Result<Tree, AllocError>
+    requires between_nodes { sampler.old ≡ [] }
+    requires contained { All (λ p. IsTrue (contains cube p)) points.items }
+    ensures tree { IfOk result (λ tree. tree ≡ octree leaf cube points.items) }
+    ensures between_nodes { OnOk result (sampler.new ≡ []) }
+{
+    if points.len() <= leaf as usize || cube.bits == 7 {
+        return Ok(Tree::Leaf(Points::new(points)));
+    }
+    let voxels = sampler.voxels(alloc, &cube, points.as_slice())?;
+    let count = points.len() as u64;
+    let lists = spread(alloc, &cube, points.as_slice())?;
+    drop(points);
+    let mut trees = Vec::with_capacity(alloc, 8)?;
+    let mut g = 0u8;
+    for list in lists {
+        trees.push(grow(alloc, sampler, list, cube.child(g), leaf)?)?;
+        g += 1;
+    }
+    Ok(Tree::Inner(InnerNode::new(count, voxels, trees)))
+}
+
+/// The points of each child, in the order of the children.
+fn spread(
+    alloc: Global,
+    cube: &Cube,
+    points: &[Point],
+) -> Result<Vec<Vec<Point>>, AllocError>
+    requires contained { All (λ p. IsTrue (contains cube.now p)) points.now }
+    requires splits { 7 < cube.now.bits }
+    ensures { IfOk result (λ lists. map vec_items lists.items ≡ map (λ g. inside (child cube.now g) points.now) (up_to 8)) }
+{
+    let mut lists = empty_lists(alloc, &count_octants(cube, points))?;
+    for p in points {
+        let list = &mut lists[usize::from(cube.octant(p))];
+        list.push(*p)?;
+    }
+    Ok(lists)
+}
+
+/// How many points lie in each octant. The counts only tell how much room to make, so that no list
+/// grows point by point.
+fn count_octants(cube: &Cube, points: &[Point]) -> [usize; 8]
+    requires contained { All (λ p. IsTrue (contains cube.now p)) points.now }
+    requires splits { 7 < cube.now.bits }
+{
+    let mut counts = [0usize; 8];
+    for p in points {
+        let octant = usize::from(cube.octant(p));
+        counts[octant] = counts[octant].wrapping_add(1);
+    }
+    counts
+}
+
+/// Eight empty lists with room for so many points.
+fn empty_lists(alloc: Global, counts: &[usize; 8]) -> Result<Vec<Vec<Point>>, AllocError>
+    ensures { IfOk result (λ lists. map vec_items lists.items ≡ replicate 8 []) }
+{
+    let mut lists = Vec::with_capacity(alloc, 8)?;
+    for octant in 0..8usize {
+        lists.push(Vec::with_capacity(alloc, counts[octant])?)?;
+    }
+    Ok(lists)
+}

@@ -1,0 +1,17 @@
+//! The octree of a list of points, built at once: its nodes, its text, its outline, and the default cube.
+#![tactic(auto)]
+
+mod cell_set;
+mod count;
+mod fitting;
+mod growth;
+mod listing;
+mod outlines;
+mod sampling;
+
+pub use count::node_count;
+pub use fitting::{Span, fit_cube};
+pub use growth::{build, build_from};
+pub use listing::nodes_text;
+pub use octree_model::{InnerNode, OutlineNode, Points, Tree, Voxel};
+pub use outlines::outline;

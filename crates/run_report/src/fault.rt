@@ -1,0 +1,120 @@
+use cube_math::RefusedRow;
+
+/// Why a run ended before its output was whole. A `name` is a file's name as the words gave it.
+#[derive(Debug, PartialEq, Eq, Drop)]
+pub enum Fault {
+    /// The output could not be written.
+    Output,
+    /// No known command was named.
+    Command,
+    /// The word at this place, from 1, is neither a file nor an option.
+    Word {
+        at: u64,
+    },
+    /// The options and files do not suit the command.
+    Options,
+    /// The value of the option of this name is not of its form or out of its range.
+    Value {
+        name: String,
+    },
+    /// All frames together would have this many pixels.
+    Pixels {
+        n: u64,
+    },
+    /// There is no file of this name.
+    NoFile {
+        name: String,
+    },
+    /// The file could not be read to its end.
+    ReadFault {
+        name: String,
+    },
+    /// A line of text, counted from 1, has `n` fields.
+    Fields {
+        name: String,
+        line: u64,
+        n: u64,
+    },
+    /// A field, counted from 1, is not a number.
+    Number {
+        name: String,
+        line: u64,
+        field: u32,
+    },
+    /// A field's number is out of range.
+    Range {
+        name: String,
+        line: u64,
+        field: u32,
+    },
+    /// The file does not begin as LAS.
+    NotLas {
+        name: String,
+    },
+    /// The LAS file ends in its header, after `have` bytes.
+    HeaderShort {
+        name: String,
+        have: u64,
+    },
+    /// The LAS version is not one that is read.
+    Version {
+        name: String,
+        major: u8,
+        minor: u8,
+    },
+    /// The LAS points are compressed.
+    Compressed {
+        name: String,
+        byte: u8,
+    },
+    /// The LAS point format is not one that is read.
+    Format {
+        name: String,
+        byte: u8,
+    },
+    /// The LAS point records have `have` bytes, too few for their format.
+    Length {
+        name: String,
+        have: u16,
+        need: u16,
+    },
+    /// The LAS points would start within the header.
+    Start {
+        name: String,
+        offset: u32,
+        header: u32,
+    },
+    /// The LAS file has `have` bytes, too few for its points.
+    PointsShort {
+        name: String,
+        have: u64,
+        need: u128,
+    },
+    /// The scales or offsets of a LAS file differ from those of the first.
+    Frames {
+        name: String,
+        first: String,
+    },
+    /// The schedule's word that begins at this byte, from 0, is not of its form.
+    Schedule {
+        name: String,
+        at: u64,
+    },
+    /// The file has more than 1,000,000,000 bytes.
+    TooLong {
+        name: String,
+    },
+    /// On this axis, 0 to 2 for x, y and z, the points span more than a cube can.
+    Axis {
+        axis: u8,
+        span: u64,
+    },
+    /// There are too many batches.
+    Batches,
+    /// A bound refused a batch.
+    Batch {
+        row: RefusedRow,
+    },
+    /// There was no memory.
+    Memory,
+}

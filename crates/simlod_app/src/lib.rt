@@ -1,0 +1,2 @@
+//! simlod_app
+#![tactic(auto)]

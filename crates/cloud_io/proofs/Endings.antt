@@ -1,14 +1,12 @@
 -- How the reading of a whole file ends.
-use Rattle.std.proofs.Common.{◌≡◌, ℕ, ◌≤◌, List, Option, Result, Ok, Err, Vec, subst, sym, ap, ◌∙◌, arith}
-use Rattle.std.specs.Prelude.{IsErrAnd, ◌≢◌}
-use Rattle.cloud_io.specs.Counts.{Rose, HasCause, HasCauses}
+use Rattle.std.proofs.Common.{◌≡◌, ℕ, List, Option, Result, Ok, Err, ap, ◌∙◌}
+use Rattle.std.specs.Prelude.{IsErrAnd}
+use Rattle.cloud_io.specs.Counts.{HasCauses}
 use Rattle.cloud_io.specs.Files.{Folder, Opened, SameElsewhere, AgreesWith}
 use Rattle.cloud_io.specs.Whole.{read_fault, ReadsWhole, ReadsTo}
-use Rattle.cloud_io.specs.declared.faults.Failed.{Failed as Refusal}
 use Rattle.cloud_io.specs.declared.faults.OpenFault.{OpenFault}
 use Rattle.cloud_io.specs.declared.faults.OpenFault.TheVariants.{NoFile as OpenNoFile, Failed as OpenFailed, Memory as OpenMemory}
-use Rattle.cloud_io.specs.declared.faults.ReadFault.{ReadFault}
-use Rattle.cloud_io.specs.declared.faults.ReadFault.TheVariants.{NoFile, Failed, TooLong, Memory}
+use Rattle.cloud_io.specs.declared.faults.ReadFault.TheVariants.{NoFile, Failed}
 
 -- the error that an answer has
 pub err_is : {T E : Type 0} (r : Result T E) (fault : E) → IsErrAnd r (λ made. made ≡ fault) → r ≡ Err fault

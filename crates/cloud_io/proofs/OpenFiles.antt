@@ -1,13 +1,13 @@
 -- Files in memory: which are found, and where those stand that were opened.
-use Rattle.std.proofs.Common.{◌≡◌, ℕ, suc, zero, ◌+◌, ◌-◌, ◌^◌, ◌<◌, ◌≤◌, min, List, ◌++◌, [], ◌∷◌, length, length-append, length-drop, get_or, set, take, drop, Option, Some, None, subst, sym, ap, ◌∙◌, refl, arith, rules, All, string_bytes}
+use Rattle.std.proofs.Common.{◌≡◌, ℕ, suc, zero, ◌+◌, ◌-◌, ◌^◌, ◌<◌, ◌≤◌, min, List, ◌++◌, [], ◌∷◌, length, length-append, length-drop, get_or, set, take, drop, Option, Some, None, subst, sym, ap, ◌∙◌, refl, arith, All, string_bytes, Bool, true, false}
 use Rattle.std.proofs.lemmas.List.{length-take-le, take_at}
-use Rattle.std.specs.Prelude.{◌≢◌, IsSome, is_some, Ok, slice_get, option_and_then, option_map, unwrap_or}
-use Rattle.std.specs.List.{position}
+use Rattle.std.specs.Prelude.{◌≢◌, IsSome, is_some, Ok, slice_get, option_and_then, option_map, unwrap_or, if◌then◌else◌}
 use Rattle.std.specs.Str.{bytes_eq}
+use Rattle.std.proofs.lemmas.List.Elements.{All-push}
 use Rattle.std.proofs.lemmas.List.Quantifiers.{position-Some}
 use Rattle.std.proofs.lemmas.Slice.Eq.{bytes_eq-Decides}
-use Rattle.std.proofs.lemmas.Option.{slice_get_read, slice_get-get_or, slice_get_within}
-use Rattle.cloud_io.specs.Files.{Folder, Opened, Opens, MovesBy, GivesNext, IsNext}
+use Rattle.std.proofs.lemmas.Option.{slice_get_read, slice_get-get_or}
+use Rattle.cloud_io.specs.Files.{Opens, MovesBy, GivesNext, IsNext}
 use Rattle.cloud_io.specs.HeldFiles.{first_named, folder_of, opened_of, IsOpenIn}
 use Rattle.cloud_io.specs.declared.named_file.NamedFile.{NamedFile}
 use Rattle.cloud_io.specs.declared.named_file.OpenFile.{OpenFile}
@@ -99,13 +99,18 @@ opens_found [] opened new name index number e n is = cc
 opens_found (f ∷ fs) opened new name index number e n is =
     let o : OpenFile = record { index = index; place = 0 } in
     let found : NamedFile = get_or (f ∷ fs) index f in
-    let there : slice_get new number ≡ Some o = ap (slice_get new) n ∙ ap (λ (l : List OpenFile). slice_get l (length opened)) is ∙ slice_get_last opened o in
-    (opened_at (f ∷ fs) new number o found there (slice_get-get_or (f ∷ fs) index f (found_there (f ∷ fs) name index e)) ∙ ap (λ (l : List ℕ). Some (l, 0)) (found_name (f ∷ fs) name index f e),
-     λ k ne. opened_same (f ∷ fs) opened new k (ap (λ (l : List OpenFile). slice_get l k) is ∙ slice_get_before opened o k (λ same. ne (same ∙ sym n))))
+    let there : slice_get new number ≡ Some o = ap (slice_get new) n ∙ ap (λ (l : List OpenFile). slice_get l (length opened)) is ∙ slice_get_last opened o in (
+      opened_at (f ∷ fs) new number o found there (slice_get-get_or (f ∷ fs) index f (found_there (f ∷ fs) name index e)) ∙ ap (λ (l : List ℕ). Some (l, 0)) (found_name (f ∷ fs) name index f e),
+      λ k ne. opened_same (f ∷ fs) opened new k (ap (λ (l : List OpenFile). slice_get l k) is ∙ slice_get_before opened o k (λ same. ne (same ∙ sym n))),
+    )
 
 -- the file of an opened number, and its place, are in order
 pub open_here : (files : List NamedFile) (opened : List OpenFile) (k : ℕ) (o : OpenFile) → All (λ o. IsOpenIn files o) opened → k < length opened → o ≡ get_or opened k o → IsOpenIn files o
 open_here files opened k o valid lt is = subst (λ o. IsOpenIn files o) (sym is) (valid k o lt)
+
+-- its place is not behind the end
+pub place_within : (files : List NamedFile) (o : OpenFile) (f : NamedFile) → IsOpenIn files o → f ≡ get_or files o.index f → o.place ≤ length f.bytes.items
+place_within files o f valid at = subst (λ (g : NamedFile). o.place ≤ length g.bytes.items) (sym at) (valid.within f)
 
 -- the name of an opened number, and its place
 opened_here : (files : List NamedFile) (opened : List OpenFile) (k : ℕ) (o : OpenFile) (f : NamedFile) → IsOpenIn files o → k < length opened → o ≡ get_or opened k o → f ≡ get_or files o.index f → opened_of files opened k ≡ Some (string_bytes f.name, o.place)
@@ -120,13 +125,14 @@ pub moves_on : (files : List NamedFile) (opened : List OpenFile) (k : ℕ) (o : 
 moves_on files opened k o f n valid lt is at few =
     let o' : OpenFile = record { index = o.index; place = o.place + n } in
     let old = opened_here files opened k o f valid lt is at in
-    let new = opened_at files (set opened k o') k o' f (slice_get_set opened k o' lt) (slice_get_read files (length files) o.index f refl valid.there at) in
-    (λ name place e.
-        let names : string_bytes f.name ≡ name = (same_pair _ _ _ _ (sym old ∙ e)).0 in
-        let places : o.place ≡ place = (same_pair _ _ _ _ (sym old ∙ e)).1 in
-        let sum : o.place + n ≡ min (place + n) (2 ^ 64 - 1) = omega arith in
-        new ∙ ap (λ (l : List ℕ). Some (l, o.place + n)) names ∙ ap (λ (m : ℕ). Some (name, m)) sum,
-     λ j ne. opened_same files opened (set opened k o') j (slice_get_beside opened k o' j ne))
+    let new = opened_at files (set opened k o') k o' f (slice_get_set opened k o' lt) (slice_get_read files (length files) o.index f refl valid.there at) in (
+      λ name place e.
+          let names : string_bytes f.name ≡ name = (same_pair _ _ _ _ (sym old ∙ e)).0 in
+          let places : o.place ≡ place = (same_pair _ _ _ _ (sym old ∙ e)).1 in
+          let sum : o.place + n ≡ min (place + n) (2 ^ 64 - 1) = omega arith in
+          new ∙ ap (λ (l : List ℕ). Some (l, o.place + n)) names ∙ ap (λ (m : ℕ). Some (name, m)) sum,
+      λ j ne. opened_same files opened (set opened k o') j (slice_get_beside opened k o' j ne),
+    )
 
 -- its next bytes are given
 pub gives_here : (files : List NamedFile) (opened : List OpenFile) (k : ℕ) (o : OpenFile) (f : NamedFile) (n : ℕ) (buf : List ℕ) → IsOpenIn files o → k < length opened → o ≡ get_or opened k o → f ≡ get_or files o.index f → IsNext f.bytes.items o.place n buf → GivesNext (Some (folder_of files)) (opened_of files opened) k n buf
@@ -152,6 +158,7 @@ next_copied bytes place n buf copied is most =
       ends = λ none room. omega arith;
     }
 
--- with another file behind them that is in order, all are
-pub valid_more : (files : List NamedFile) (opened : List OpenFile) (o : OpenFile) → All (λ o. IsOpenIn files o) opened → IsOpenIn files o → All (λ o. IsOpenIn files o) (opened ++ o ∷ [])
-valid_more files opened o all last = ?
+-- all are in order, whether a file that is in order was put behind them or not
+pub valid_push : (pushed : Bool) (files : List NamedFile) (opened new : List OpenFile) (o : OpenFile) → new ≡ (if pushed then opened ++ o ∷ [] else opened) → All (λ o. IsOpenIn files o) opened → IsOpenIn files o → All (λ o. IsOpenIn files o) new
+valid_push true files opened new o is all last = subst (λ (l : List OpenFile). All (λ o. IsOpenIn files o) l) (sym is) (All-push (λ o. IsOpenIn files o) opened o all last)
+valid_push false files opened new o is all last = subst (λ (l : List OpenFile). All (λ o. IsOpenIn files o) l) (sym is) all

@@ -1,7 +1,7 @@
 -- The first bytes of a file that is told, as far as a reading has come.
-use Rattle.std.proofs.Common.{◌≡◌, ℕ, ◌+◌, ◌-◌, ◌^◌, min, ◌<◌, ◌≤◌, List, ◌++◌, [], take, drop, length, Option, Some, None, subst, sym, ap, ◌∙◌, refl, arith, rules, length-append}
+use Rattle.std.proofs.Common.{◌≡◌, ℕ, ◌+◌, ◌-◌, ◌^◌, min, ◌<◌, ◌≤◌, List, ◌++◌, [], take, drop, length, Option, Some, None, subst, sym, ap, ◌∙◌, refl, arith, length-append}
 use Rattle.std.proofs.lemmas.List.{length-take-le, take_all}
-use Rattle.std.specs.Prelude.{⊤, IfSome, IsSome, IsSomeAnd}
+use Rattle.std.specs.Prelude.{IfSome, IsSome, IsSomeAnd}
 use Rattle.std.proofs.Math.Seq.{take-add}
 use Rattle.cloud_io.specs.Files.{Folder, Opened, MovesBy, GivesNext, IsNext}
 
@@ -72,8 +72,3 @@ stands_more opened opened' file name len n total stands moves sum few =
 -- how many bytes there are behind a read
 pub grown : (new old : List ℕ) (n : ℕ) (buf : List ℕ) → new ≡ old ++ take n buf → n ≤ length buf → length new ≡ length old + n
 grown new old n buf e fits = ap length e ∙ length-append old (take n buf) ∙ ap (λ k. length old + k) (length-take-le n buf fits)
-
--- the whole file, of which there are not too many bytes
-pub fits_told : (files : Option Folder) (name : List ℕ) (most : ℕ) (xs : List ℕ) → IfSome files (λ folder. folder name ≡ Some xs) → length xs ≤ most → IfSome files (λ folder. (folder name ≡ Some xs) × (length xs ≤ most))
-fits_told None name most xs h few = tt
-fits_told (Some folder) name most xs h few = (h, few)

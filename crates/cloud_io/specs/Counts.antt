@@ -11,7 +11,8 @@ pub record HasCause {T E : Type 0} (old new : ℕ) (result : Result T E) : Type 
   pub failed : OnErr result (Rose old new)
 
 -- neither count falls, and each of the two errors comes only where its count rose
-pub record HasCauses {T E : Type 0} (faults faults' missing missing' : ℕ) (failed no_file : E) (result : Result T E) : Type 0 where
+pub record HasCauses {T E : Type 0} (faults faults' missing missing' : ℕ) (failed no_file : E)
+    (result : Result T E) : Type 0 where
   pub faults_later : faults ≤ faults'
   pub missing_later : missing ≤ missing'
   pub failed_rose : IsErrOf result failed → Rose faults faults'

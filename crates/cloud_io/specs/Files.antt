@@ -29,7 +29,10 @@ AgreesWith files name (Err Memory) = ⊤
 
 -- the place of the file moved by n, up to the last number of 64 bits, and no other file changed
 abbrev pub MovesBy : Opened → Opened → ℕ → ℕ → Type 0
-MovesBy old new file n = ((name : List ℕ) (place : ℕ) → old file ≡ Some (name, place) → new file ≡ Some (name, min (place + n) (2 ^ 64 - 1))) × SameElsewhere file old new
+MovesBy old new file n =
+    ((name : List ℕ) (place : ℕ) →
+    old file ≡ Some (name, place) → new file ≡ Some (name, min (place + n) (2 ^ 64 - 1)))
+    × SameElsewhere file old new
 
 -- a read moved the place of its file by as much as it gave; a refusal moves nothing
 abbrev pub Moves : {E : Type 0} → Opened → Opened → ℕ → Result ℕ E → Type 0
@@ -44,7 +47,9 @@ pub record IsNext (bytes : List ℕ) (place n : ℕ) (buf : List ℕ) : Type 0 w
 
 -- n bytes of a file that is told were given, from its place on
 abbrev pub GivesNext : Option Folder → Opened → ℕ → ℕ → List ℕ → Type 0
-GivesNext files opened file n buf = IfSome files (λ folder. (name : List ℕ) (place : ℕ) (bytes : List ℕ) → opened file ≡ Some (name, place) → folder name ≡ Some bytes → IsNext bytes place n buf)
+GivesNext files opened file n buf =
+    IfSome files (λ folder. (name : List ℕ) (place : ℕ) (bytes : List ℕ) →
+    opened file ≡ Some (name, place) → folder name ≡ Some bytes → IsNext bytes place n buf)
 
 -- a read gave the next bytes
 abbrev pub Gives : {E : Type 0} → Option Folder → Opened → ℕ → Result ℕ E → List ℕ → Type 0

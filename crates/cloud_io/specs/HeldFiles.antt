@@ -11,14 +11,19 @@ first_named files name = position (λ f. bytes_eq (string_bytes f.name) name) fi
 
 -- the bytes of each name: those of the first file of that name
 unfoldable pub folder_of : List NamedFile → Folder
-folder_of files name = option_and_then (λ k. option_map (λ (f : NamedFile). f.bytes.items) (slice_get files k)) (first_named files name)
+folder_of files name =
+    option_and_then (λ k. option_map (λ (f : NamedFile). f.bytes.items) (slice_get files k)) (first_named files name)
 
 -- the name of each opened file and the place in it
 unfoldable pub opened_of : List NamedFile → List OpenFile → Opened
-opened_of files opened k = option_and_then (λ (o : OpenFile). option_map (λ (f : NamedFile). (string_bytes f.name, o.place)) (slice_get files o.index)) (slice_get opened k)
+opened_of files opened k =
+    option_and_then (λ (o : OpenFile).
+    option_map (λ (f : NamedFile). (string_bytes f.name, o.place)) (slice_get files o.index))
+    (slice_get opened k)
 
 -- an opened file is the first of its name, and its place is not behind its end
 pub record IsOpenIn (files : List NamedFile) (o : OpenFile) : Type 0 where
   pub there : o.index < length files
-  pub first : (d : NamedFile) → first_named files (string_bytes (slice_index_or files o.index d).name) ≡ Some o.index
+  pub first : (d : NamedFile) →
+      first_named files (string_bytes (slice_index_or files o.index d).name) ≡ Some o.index
   pub within : (d : NamedFile) → o.place ≤ length (slice_index_or files o.index d).bytes.items

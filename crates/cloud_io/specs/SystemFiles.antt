@@ -1,5 +1,5 @@
 -- Files of the system that were opened.
-use Rattle.std.specs.Prelude.{ℕ, List, option_map, slice_get, string_bytes}
+use Rattle.std.specs.Prelude.{List, option_map, slice_get, string_bytes}
 use Rattle.cloud_io.specs.Files.{Opened}
 use Rattle.cloud_io.specs.declared.file_inputs.SystemFile.{SystemFile}
 

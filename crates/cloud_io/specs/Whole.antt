@@ -13,12 +13,15 @@ read_fault OpenNoFile = NoFile
 read_fault OpenFailed = Failed
 read_fault OpenMemory = Memory
 
--- in a folder that is told: Ok gives the bytes of the name, which are not too many; TooLong and NoFile are true of it
-abbrev pub ReadsWhole : {A : Type 0} → Option Folder → List ℕ → ℕ → Result (Vec ℕ A) ReadFault → Type 0
-ReadsWhole files name most (Ok bytes) = IfSome files (λ folder. (folder name ≡ Some bytes.items) × (length bytes.items ≤ most))
+-- in a folder that is told: Ok gives the bytes of the name, NoFile comes where there is no such name,
+-- and TooLong where it has more than most bytes
+abbrev pub ReadsWhole :
+    {A : Type 0} → Option Folder → List ℕ → ℕ → Result (Vec ℕ A) ReadFault → Type 0
+ReadsWhole files name most (Ok bytes) = IfSome files (λ folder. folder name ≡ Some bytes.items)
 ReadsWhole files name most (Err NoFile) = IfSome files (λ folder. folder name ≡ None)
 ReadsWhole files name most (Err Failed) = ⊤
-ReadsWhole files name most (Err (TooLong limit)) = IfSome files (λ folder. IsSomeAnd (folder name) (λ bytes. most < length bytes))
+ReadsWhole files name most (Err (TooLong limit)) =
+    IfSome files (λ folder. IsSomeAnd (folder name) (λ bytes. most < length bytes))
 ReadsWhole files name most (Err Memory) = ⊤
 
 -- one file of the name was opened and stands at the place, and no other changed
@@ -31,12 +34,16 @@ pub record OpensTo (old new : Opened) (name : List ℕ) (place : ℕ) : Type 0 w
 abbrev pub ChangesOne : Opened → Opened → Type 0
 ChangesOne old new = (file : ℕ) × SameElsewhere file old new
 
--- where the opened file stands: behind the bytes of Ok, at most the limit; behind the limit at TooLong
-abbrev pub ReadsTo : {A : Type 0} → Opened → Opened → List ℕ → ℕ → Result (Vec ℕ A) ReadFault → Type 0
-ReadsTo old new name most (Ok bytes) = OpensTo old new name (length bytes.items) × (length bytes.items ≤ most)
+-- how far the opened file was read: at Ok as far as the bytes go, which are not too many; at TooLong,
+-- which tells the limit of this call, beyond it
+abbrev pub ReadsTo :
+    {A : Type 0} → Opened → Opened → List ℕ → ℕ → Result (Vec ℕ A) ReadFault → Type 0
+ReadsTo old new name most (Ok bytes) =
+    OpensTo old new name (length bytes.items) × (length bytes.items ≤ most)
 ReadsTo old new name most (Err NoFile) = (k : ℕ) → new k ≡ old k
 ReadsTo old new name most (Err Failed) = ChangesOne old new
-ReadsTo old new name most (Err (TooLong limit)) = (limit ≡ most) × ((place : ℕ) × (most < place) × OpensTo old new name place)
+ReadsTo old new name most (Err (TooLong limit)) =
+    (limit ≡ most) × ((place : ℕ) × (most < place) × OpensTo old new name place)
 ReadsTo old new name most (Err Memory) = ChangesOne old new
 
 -- some first bytes, but not all, were appended
@@ -44,5 +51,7 @@ abbrev pub AppendsPrefix : Option (List ℕ) → Option (List ℕ) → List ℕ 
 AppendsPrefix old new bytes = (n : ℕ) × (n < length bytes) × Appends old new (take n bytes)
 
 -- all bytes were appended at Ok, and a prefix of them at a failure
-abbrev pub WritesWhole : {T E : Type 0} → Option (List ℕ) → Option (List ℕ) → List ℕ → Result T E → Type 0
-WritesWhole old new bytes result = MatchResult result (λ _. Appends old new bytes) (λ _. AppendsPrefix old new bytes)
+abbrev pub WritesWhole :
+    {T E : Type 0} → Option (List ℕ) → Option (List ℕ) → List ℕ → Result T E → Type 0
+WritesWhole old new bytes result =
+    MatchResult result (λ _. Appends old new bytes) (λ _. AppendsPrefix old new bytes)

@@ -5,11 +5,12 @@ use std::fs;
 use std::io::{ErrorKind, Read};
 use std::rt::Files;
 
-/// A file of the system that was opened, and the place in it.
+/// A file of the system that was opened, and the place in it. It is closed where its end is read, so
+/// that many files can be read one after the other.
 #[derive(Drop)]
 pub struct SystemFile<F> {
     name: String,
-    file: F,
+    file: Option<F>,
     place: u64,
 }
 
@@ -80,7 +81,7 @@ where
         let number = self.opened.len() as u64;
         match self.opened.push(SystemFile {
             name,
-            file,
+            file: Some(file),
             place: 0,
         }) {
             Ok(()) => Ok(number),
@@ -90,15 +91,18 @@ where
 
     fn read(&mut self, file: u64, buf: &mut [u8]) -> Result<usize, Failed> {
         let opened = &mut self.opened[file as usize];
-        match opened.file.read(buf) {
-            Ok(n) => {
-                opened.place = opened.place.saturating_add(n as u64);
-                Ok(n)
-            }
-            Err(_) => {
-                self.faults = self.faults.saturating_add(1);
-                Err(Failed)
-            }
+        let given = match &mut opened.file {
+            Some(source) => source.read(buf),
+            None => Ok(0),
+        };
+        let Ok(n) = given else {
+            self.faults = self.faults.saturating_add(1);
+            return Err(Failed);
+        };
+        opened.place = opened.place.saturating_add(n as u64);
+        if n == 0 && !buf.is_empty() {
+            opened.file = None;
         }
+        Ok(n)
     }
 }

@@ -17,7 +17,7 @@ pub struct HeldFiles {
 impl HeldFiles {
     ghost use Rattle.std.specs.Prelude.{◌≡◌, ◌≢◌, ◌≤◌, [], Some, Err, IsSome, length};
     ghost use Rattle.cloud_io.specs.Files.{Opens, AgreesWith, MovesBy, GivesNext};
-    ghost use Rattle.cloud_io.specs.HeldFiles.{folder_of, opened_of};
+    ghost use Rattle.cloud_io.specs.HeldViews.{folder, places};
 
     /// These files, none of them opened.
     pub fn new(alloc: Global, files: Vec<NamedFile>) -> HeldFiles
@@ -34,8 +34,8 @@ impl HeldFiles {
     /// runs out.
     pub fn open(&mut self, name: &str) -> Result<u64, OpenFault>
         ensures files { self.new.files ≡ self.old.files }
-        ensures opens { Opens (opened_of self.old.files.items self.old.opened.items) (opened_of self.new.files.items self.new.opened.items) name.now result }
-        ensures agrees { AgreesWith (Some (folder_of self.old.files.items)) name.now result }
+        ensures opens { Opens (places self.old) (places self.new) name.now result }
+        ensures agrees { AgreesWith (Some (folder self.old)) name.now result }
         ensures sure { result ≢ Err OpenFault.Failed }
     {
         let Some(index) = index_of(self.files.as_slice(), name) else {
@@ -50,11 +50,11 @@ impl HeldFiles {
 
     /// Copies the next bytes of an opened file to the front of `buf`, and answers how many.
     pub fn read(&mut self, file: u64, buf: &mut [u8]) -> usize
-        requires { IsSome (opened_of self.old.files.items self.old.opened.items file) }
+        requires { IsSome (places self.old file) }
         ensures files { self.new.files ≡ self.old.files }
         ensures bound { result ≤ length buf.new }
-        ensures moves { MovesBy (opened_of self.old.files.items self.old.opened.items) (opened_of self.new.files.items self.new.opened.items) file result }
-        ensures gives { GivesNext (Some (folder_of self.old.files.items)) (opened_of self.old.files.items self.old.opened.items) file result buf.new }
+        ensures moves { MovesBy (places self.old) (places self.new) file result }
+        ensures gives { GivesNext (Some (folder self.old)) (places self.old) file result buf.new }
     {
         let opened = &mut self.opened[file as usize];
         let bytes = self.files[opened.index].bytes.as_slice();

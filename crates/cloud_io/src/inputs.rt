@@ -29,7 +29,8 @@ pub trait Inputs: Send {
         ensures files { files self.new ≡ files self.old }
         ensures opens { Opens (opened self.old) (opened self.new) name.now result }
         ensures agrees { AgreesWith (files self.old) name.now result }
-        ensures causes { HasCauses (faults self.old) (faults self.new) (missing self.old) (missing self.new) OpenFault.Failed OpenFault.NoFile result };
+        ensures causes { HasCauses (faults self.old) (faults self.new)
+            (missing self.old) (missing self.new) OpenFault.Failed OpenFault.NoFile result };
 
     /// Reads the next bytes of an opened file to the front of `buf`, and answers how many. For a `buf`
     /// that is not empty 0 means the end.

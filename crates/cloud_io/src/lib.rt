@@ -2,6 +2,7 @@
 //! sinks in memory and to the standard streams, and the reading and writing of a whole file.
 #![tactic(auto)]
 
+mod failing_calls;
 mod faults;
 mod file_inputs;
 mod held_files;
@@ -26,3 +27,6 @@ pub use stream_sink::{StderrSink, StdoutSink, StreamSink};
 pub use sure_inputs::SureInputs;
 pub use sure_sink::SureSink;
 pub use whole::{read_all, write_all};
+
+#[cfg(test)]
+mod tests;

@@ -1,3 +1,4 @@
+use crate::failing_calls::FailingCalls;
 use crate::faults::{Failed, OpenFault};
 use crate::held_files::HeldFiles;
 use crate::inputs::Inputs;
@@ -9,8 +10,7 @@ use std::alloc::Global;
 #[derive(Debug, Drop)]
 pub struct MemInputs {
     held: HeldFiles,
-    failing: Vec<u64>,
-    calls: u64,
+    failing: FailingCalls,
     faults: u64,
     missing: u64,
 }
@@ -28,8 +28,7 @@ impl MemInputs {
     {
         MemInputs {
             held: HeldFiles::new(alloc, files),
-            failing,
-            calls: 0,
+            failing: FailingCalls::new(failing),
             faults: 0,
             missing: 0,
         }
@@ -38,20 +37,18 @@ impl MemInputs {
 
 impl Inputs for MemInputs {
     ghost use Rattle.std.specs.Prelude.{Some};
-    ghost use Rattle.cloud_io.specs.HeldFiles.{folder_of, opened_of};
+    ghost use Rattle.cloud_io.specs.HeldViews.{folder, places};
 
-    ghost files = { λ s. Some (folder_of s.held.files.items) };
+    ghost files = { λ s. Some (folder s.held) };
 
-    ghost opened = { λ s. opened_of s.held.files.items s.held.opened.items };
+    ghost opened = { λ s. places s.held };
 
     ghost faults = { λ s. s.faults };
 
     ghost missing = { λ s. s.missing };
 
     fn open_input(&mut self, name: &str) -> Result<u64, OpenFault> {
-        self.calls = self.calls.saturating_add(1);
-        let call = self.calls;
-        if self.failing.contains(&call) {
+        if self.failing.next_fails() {
             self.faults = self.faults.saturating_add(1);
             return Err(OpenFault::Failed);
         }
@@ -63,9 +60,7 @@ impl Inputs for MemInputs {
     }
 
     fn read(&mut self, file: u64, buf: &mut [u8]) -> Result<usize, Failed> {
-        self.calls = self.calls.saturating_add(1);
-        let call = self.calls;
-        if self.failing.contains(&call) {
+        if self.failing.next_fails() {
             self.faults = self.faults.saturating_add(1);
             return Err(Failed);
         }

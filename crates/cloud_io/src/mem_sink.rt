@@ -1,5 +1,6 @@
 ghost use Rattle.std.specs.Prelude.{◌≤◌};
 
+use crate::failing_calls::FailingCalls;
 use crate::faults::Failed;
 use crate::sink::Sink;
 use std::alloc::Global;
@@ -9,9 +10,8 @@ use std::alloc::Global;
 #[derive(Debug, Drop)]
 pub struct MemSink {
     bytes: Vec<u8>,
-    failing: Vec<u64>,
+    failing: FailingCalls,
     most: usize,
-    calls: u64,
     faults: u64,
     ghost takes: { 1 ≤ most },
 }
@@ -27,9 +27,8 @@ impl MemSink {
     {
         MemSink {
             bytes: Vec::new(alloc),
-            failing,
+            failing: FailingCalls::new(failing),
             most,
-            calls: 0,
             faults: 0,
         }
     }
@@ -50,10 +49,8 @@ impl Sink for MemSink {
     ghost faults = { λ s. s.faults };
 
     fn write(&mut self, bytes: &[u8]) -> Result<usize, Failed> {
-        self.calls = self.calls.saturating_add(1);
-        let call = self.calls;
         let n = bytes.len().min(self.most);
-        if self.failing.contains(&call) || self.bytes.extend_from_slice(&bytes[..n]).is_err() {
+        if self.failing.next_fails() || self.bytes.extend_from_slice(&bytes[..n]).is_err() {
             self.faults = self.faults.saturating_add(1);
             return Err(Failed);
         }

@@ -30,11 +30,11 @@ impl SureInputs {
 
 impl Inputs for SureInputs {
     ghost use Rattle.std.specs.Prelude.{Some};
-    ghost use Rattle.cloud_io.specs.HeldFiles.{folder_of, opened_of};
+    ghost use Rattle.cloud_io.specs.HeldViews.{folder, places};
 
-    ghost files = { λ s. Some (folder_of s.held.files.items) };
+    ghost files = { λ s. Some (folder s.held) };
 
-    ghost opened = { λ s. opened_of s.held.files.items s.held.opened.items };
+    ghost opened = { λ s. places s.held };
 
     ghost faults = { λ _. 0 };
 

@@ -12,7 +12,8 @@ const PIECE: usize = 65536;
 
 /// Reads the file of the name from its start to its end, if it has at most `most` bytes.
 ///
-/// It makes at most `most + 2` reads, and holds at most `most` bytes and one piece of 64 KiB.
+/// It keeps at most `most` bytes, besides a piece of 64 KiB. Each read but the last gives at least one
+/// byte, so it makes at most `most + 1` reads.
 pub fn read_all<I: Inputs>(
     alloc: Global,
     inputs: &mut I,
@@ -22,7 +23,8 @@ pub fn read_all<I: Inputs>(
     ensures files { I.files inputs.new ≡ I.files inputs.old }
     ensures told { ReadsWhole (I.files inputs.old) name.now most result }
     ensures place { ReadsTo (I.opened inputs.old) (I.opened inputs.new) name.now most result }
-    ensures causes { HasCauses (I.faults inputs.old) (I.faults inputs.new) (I.missing inputs.old) (I.missing inputs.new) ReadFault.Failed ReadFault.NoFile result }
+    ensures causes { HasCauses (I.faults inputs.old) (I.faults inputs.new)
+        (I.missing inputs.old) (I.missing inputs.new) ReadFault.Failed ReadFault.NoFile result }
 {
     let mut buffer = vec![in alloc; 0u8; PIECE]?;
     let piece = buffer.as_mut_slice();
@@ -33,10 +35,10 @@ pub fn read_all<I: Inputs>(
         if n == 0 {
             return Ok(bytes);
         }
-        bytes.extend_from_slice(&piece[..n])?;
-        if bytes.len() as u64 > most {
+        if (bytes.len() + n) as u64 > most {
             return Err(ReadFault::TooLong { most });
         }
+        bytes.extend_from_slice(&piece[..n])?;
     }
 }
 

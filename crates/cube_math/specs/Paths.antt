@@ -1,5 +1,5 @@
 -- Paths: the octants from the root to a node, kept in 24 places with zeros behind them.
-use Rattle.std.specs.Prelude.{ℕ, ◌≡◌, ◌≤◌, ◌-◌, ◌++◌, List, take, length, replicate}
+use Rattle.std.specs.Prelude.{ℕ, ◌≡◌, ◌≤◌, ◌-◌, ◌++◌, List, take, length, replicate, ◌<◌, EachIndex, slice_index}
 use Rattle.std.proofs.Common.{ap, ◌∙◌, sym, arith}
 use Rattle.std.proofs.lemmas.List.{length-take-le}
 use Rattle.cube_math.specs.declared.path.Path.TheInside.{Inside}
@@ -8,6 +8,7 @@ use Rattle.cube_math.specs.declared.path.Path.TheInside.{Inside}
 pub record IsPath (octants : List ℕ) (len : ℕ) : Type 0 where
   pub long : length octants ≡ 24
   pub few : len ≤ 24
+  pub small : EachIndex octants (λ k. slice_index octants k < 8)
   pub padded : octants ≡ take len octants ++ replicate (24 - len) 0
 
 abbrev pub octants_of : Inside → List ℕ

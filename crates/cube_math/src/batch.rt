@@ -1,4 +1,4 @@
-ghost use Rattle.std.specs.Prelude.{◌≡◌, ◌<◌, ◌≤◌, [], length, Some, MatchResult, IfOk, IfErr, All, IsTrue};
+ghost use Rattle.std.specs.Prelude.{◌≡◌, ◌<◌, ◌≤◌, [], length, Some, None, OnOk, MatchResult, IfOk, IfErr, All, IsTrue};
 ghost use Rattle.cube_math.specs.Refusals.{first_outside};
 
 use crate::cube::Cube;
@@ -36,6 +36,7 @@ pub enum BatchRefusal {
 }
 
 impl Batch {
+    ghost use Rattle.cube_math.specs.Batches.{IsBatch};
     ghost use Rattle.cube_math.specs.Refusals.{refusal};
 
     /// A batch of these points, or the first refusal that applies and the points back.
@@ -46,6 +47,7 @@ impl Batch {
         most: u32,
     ) -> Result<Batch, (BatchRefusal, Vec<Point>)>
         ensures ok { IfOk result (λ b. b ≡ record { input = input; points = points.items; cube = cube.now; most = most }) }
+        ensures accepted { OnOk result (refusal points.items cube.now most ≡ None) }
         ensures refused { IfErr result (λ e. refusal points.items cube.now most ≡ Some e.0) }
         ensures back { IfErr result (λ e. e.1.items ≡ points.items) }
     {
@@ -74,9 +76,10 @@ impl Batch {
         self.input
     }
 
-    /// The points, in the order of the input.
+    /// The points, in the order of the input. The cube contains each of them.
     pub fn points(&self) -> &[Point]
-        ensures { result.now ≡ self.now.points }
+        ensures value { result.now ≡ self.now.points }
+        ensures kept { IsBatch self.now.points self.now.cube self.now.most }
     {
         self.points.as_slice()
     }

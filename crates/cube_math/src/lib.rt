@@ -6,6 +6,8 @@ mod cube;
 mod path;
 mod point;
 mod refused;
+#[cfg(test)]
+mod tests;
 
 pub use batch::{Batch, BatchRefusal, first_outside};
 pub use cube::Cube;

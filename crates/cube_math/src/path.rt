@@ -1,4 +1,4 @@
-ghost use Rattle.std.specs.Prelude.{◌≡◌, ◌<◌, ◌++◌, ◌∷◌, [], length, slice_get, Some};
+ghost use Rattle.std.specs.Prelude.{◌≡◌, ◌<◌, ◌≤◌, ◌++◌, ◌∷◌, [], length, slice_get, Some};
 
 use std::marker::Model;
 
@@ -39,14 +39,16 @@ impl Path {
     }
 
     pub fn len(&self) -> u32
-        ensures { result ≡ length self.now }
+        ensures value { result ≡ length self.now }
+        ensures few { result ≤ 24 }
     {
         u32::from(self.len)
     }
 
     pub fn octant(&self, i: u32) -> u8
         requires { i < length self.now }
-        ensures { slice_get self.now i ≡ Some result }
+        ensures value { slice_get self.now i ≡ Some result }
+        ensures below { result < 8 }
     {
         self.octants[i as usize]
     }

@@ -1,5 +1,6 @@
 pub mod AscendingLaws
 pub mod BagLaws
 pub mod CountLaws
+mod Examples
 pub mod NumberLaws
 pub mod OctreeLaws

@@ -1,5 +1,5 @@
 -- Fitted cubes.
-use Rattle.std.proofs.Common.{◌≡◌, ◌≤◌, ◌<◌, ◌+◌, ◌-◌, ◌*◌, ◌%◌, ◌^◌, ℕ, ℤ, pos, ◌-ℤ◌, ◌+ℤ◌, ◌≤ℤ◌, ◌<ℤ◌, unsigned_abs, max, List, [], ◌∷◌, map, take, length, get_or, fold, None, IsTrue, true, false, cond, int_le, int_lt, ◌⊎◌, ap, ◌∙◌, sym, refl, arith, inl, inr, to_z, of_z, w32, w64}
+use Rattle.std.proofs.Common.{◌≡◌, ◌≤◌, ◌<◌, ◌+◌, ◌-◌, ◌*◌, ◌%◌, ◌^◌, ℕ, ℤ, pos, ◌-ℤ◌, ◌+ℤ◌, ◌≤ℤ◌, ◌<ℤ◌, unsigned_abs, max, List, [], ◌∷◌, map, take, length, get_or, fold, IsTrue, true, false, cond, int_le, int_lt, ◌⊎◌, ap, ◌∙◌, sym, refl, arith, inl, inr, to_z, of_z, w32, w64}
 use Rattle.std.specs.List.{All}
 use Rattle.std.specs.Int.{int_min, int_max}
 use Rattle.std.proofs.lemmas.Int.{to_z-of_z, to_z_pos, ints, clamps, fold-int_min_bounds, fold-int_max_bounds}
@@ -10,8 +10,8 @@ use Rattle.std.proofs.lemmas.List.Sums.{fold_push}
 use Rattle.std.proofs.lemmas.Nat.{one_shl}
 use Rattle.std.proofs.Math.Nat.{pow-le-pow_right}
 use Rattle.cube_math.specs.Points.{PointValue}
-use Rattle.cube_math.specs.Cubes.{CubeValue, on_axis, contains, FitsSpace}
-use Rattle.octree_plain.specs.Fitting.{origin, on_x, on_y, on_z, least_of, greatest_of, span_of, wide_axis, AllSpanBelow, IsFittedCube}
+use Rattle.cube_math.specs.Cubes.{on_axis, contains, FitsSpace}
+use Rattle.octree_plain.specs.Fitting.{origin, on_x, on_y, on_z, least_of, greatest_of, span_of, IsFittedCube}
 use mir.Val.{SFits}
 
 le_to : (a b : ℤ) → a ≤ℤ b → int_le a b ≡ true

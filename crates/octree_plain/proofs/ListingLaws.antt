@@ -1,6 +1,6 @@
 -- The text of an octree.
-use Rattle.std.proofs.Common.{◌≡◌, ℕ, ◌+◌, ◌<◌, ◌^◌, ◌-◌, List, [], ◌∷◌, ◌++◌, Bool, false, length, replicate, take, get_or, codes, decimal, slice_get, Some, Option, Result, OnOk, ap, ◌∙◌, sym, subst, append_assoc, arith}
-use Rattle.std.specs.Fmt.{signed_decimal, digits, format_spec, padded_integral, char_count, digits_output, styled_digits_output, shown_prefix, radix_prefix}
+use Rattle.std.proofs.Common.{◌≡◌, ℕ, ◌+◌, ◌<◌, ◌^◌, ◌-◌, List, [], ◌∷◌, ◌++◌, Bool, false, length, replicate, take, get_or, codes, decimal, slice_get, Some, Result, OnOk, ap, ◌∙◌, sym, subst, append_assoc, arith}
+use Rattle.std.specs.Fmt.{signed_decimal, digits, format_spec, padded_integral, char_count, digits_output, styled_digits_output}
 use Rattle.std.specs.List.{flat_map}
 use Rattle.std.specs.Option.{option_map}
 use Rattle.std.specs.declared.alloc.AllocError.{AllocError}

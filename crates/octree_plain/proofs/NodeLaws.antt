@@ -1,10 +1,10 @@
 -- How many nodes and points an octree has.
-use Rattle.std.proofs.Common.{◌≡◌, ℕ, zero, suc, ◌+◌, ◌-◌, ◌*◌, ◌<◌, ◌≤◌, ◌^◌, true, count_by, sum, List, [], ◌∷◌, ◌++◌, map, length, ap, ◌∙◌, sym, arith, inl, inr, refl, subst, length-append}
+use Rattle.std.proofs.Common.{◌≡◌, ℕ, zero, suc, ◌+◌, ◌-◌, ◌*◌, ◌<◌, ◌≤◌, ◌^◌, true, count_by, sum, List, [], ◌∷◌, map, length, ap, ◌∙◌, sym, arith, inl, inr, refl, subst, length-append}
 use Rattle.std.proofs.lemmas.Bool.{cases_lt, le-leb, lt-leb}
-use Rattle.std.proofs.lemmas.List.Sums.{sum_by-cons, length-filter, count_by-le-length}
+use Rattle.std.proofs.lemmas.List.Sums.{sum_by-cons}
 use Rattle.std.proofs.Math.Nat.{mul-le-mul, mul-add}
 use Rattle.cube_math.specs.Points.{PointValue}
-use Rattle.cube_math.specs.Cubes.{CubeValue, contains, child}
+use Rattle.cube_math.specs.Cubes.{CubeValue, child}
 use Rattle.octree_model.specs.Numbers.{up_to}
 use Rattle.octree_model.specs.Voxels.{voxels}
 use Rattle.octree_model.specs.Octree.{inside, octree_at, octree}

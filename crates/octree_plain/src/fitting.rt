@@ -1,4 +1,4 @@
-ghost use Rattle.std.specs.Prelude.{◌≡◌, ◌≤◌, ◌<◌, ◌^◌, ◌-◌, ◌-ℤ◌, ◌≤ℤ◌, pos, map, unsigned_abs, Ok, Err, None, Some, IfOk, IfErr, All, IsTrue, fold, length};
+ghost use Rattle.std.specs.Prelude.{◌≡◌, ◌≤◌, ◌<◌, ◌^◌, ◌-◌, ◌-ℤ◌, unsigned_abs, Some, IfOk, IfErr, All, IsTrue};
 ghost use Rattle.std.specs.Int.{int_min, int_max};
 ghost use Rattle.cube_math.specs.Cubes.{contains};
 ghost use Rattle.octree_plain.specs.Fitting.{IsFittedCube, wide_axis, least_of, greatest_of, on_x, on_y, on_z, origin};

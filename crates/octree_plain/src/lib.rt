@@ -4,8 +4,12 @@
 mod cell_set;
 mod count;
 mod fitting;
+#[cfg(test)]
+mod fitting_tests;
 mod growth;
 mod listing;
+#[cfg(test)]
+mod listing_tests;
 mod outlines;
 mod sampling;
 

@@ -52,12 +52,7 @@ fn point_count(tree: &Tree) -> u64
 }
 
 /// Appends the lines of the octree whose root has the path.
-fn write_lines(
-    out: &mut String,
-    tree: &Tree,
-    path: Path,
-    voxels: bool,
-) -> Result<(), AllocError>
+fn write_lines(out: &mut String, tree: &Tree, path: Path, voxels: bool) -> Result<(), AllocError>
     requires { IsOctreeBelow path tree.now }
     ensures { OnOk result (string_bytes out.new ≡ string_bytes out.old ++ lines voxels tree.now path) }
 {

@@ -1,4 +1,8 @@
+ghost use Rattle.std.specs.Prelude.{◌≡◌};
+ghost use Rattle.run_report.specs.declared.fault.Fault.TheVariants.{Memory};
+
 use cube_math::RefusedRow;
+use std::alloc::{AllocError, AllocFailed};
 
 /// Why a run ended before its output was whole. A `name` is a file's name as the words gave it.
 #[derive(Debug, PartialEq, Eq, Drop)]
@@ -117,4 +121,20 @@ pub enum Fault {
     },
     /// There was no memory.
     Memory,
+}
+
+impl From<AllocError> for Fault {
+    ghost from_gives = { λ _ fault. fault ≡ Memory };
+
+    fn from(_error: AllocError) -> Fault {
+        Fault::Memory
+    }
+}
+
+impl<T: Drop> From<AllocFailed<T>> for Fault {
+    ghost from_gives = { λ _ fault. fault ≡ Memory };
+
+    fn from(_error: AllocFailed<T>) -> Fault {
+        Fault::Memory
+    }
 }

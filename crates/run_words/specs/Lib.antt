@@ -4,3 +4,5 @@ pub mod Jobs
 pub mod Numbers
 pub mod Options
 pub mod Screens
+pub mod Values
+pub mod Ranges

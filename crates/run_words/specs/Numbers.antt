@@ -21,11 +21,13 @@ has_minus text = slice_index text 0 == 45
 abbrev pub whole : Text → ℤ
 whole text = if has_minus text then pos 0 -ℤ pos (natural (drop 1 text)) else pos (natural text)
 
--- a number from low to high: one to ten digits, after a `-` only where the range has negative numbers
+-- one to ten digits, after a `-` only where negative numbers are meant
+abbrev pub is_numeral : Bool → Text → Bool
+is_numeral negatives text = is_digits 10 (if has_minus text && negatives then drop 1 text else text)
+
+-- a number from low to high, with a `-` only where the range has negative numbers
 abbrev pub is_number : ℤ → ℤ → Text → Bool
-is_number low high text =
-    is_digits 10 (if has_minus text && int_lt low (pos 0) then drop 1 text else text)
-    && int_le low (whole text) && int_le (whole text) high
+is_number low high text = is_numeral (int_lt low (pos 0)) text && int_le low (whole text) && int_le (whole text) high
 
 -- a seed: one to twenty digits, below 2 ^ 64
 abbrev pub is_seed : Text → Bool

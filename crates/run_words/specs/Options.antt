@@ -4,7 +4,7 @@ use Rattle.run_words.specs.Commands.{Text}
 use Rattle.run_words.specs.declared.command.CommandName.{CommandName}
 use Rattle.run_words.specs.declared.command.CommandName.TheVariants.{Nodes, Bounds, Image, Replay, Demo, Live}
 use Rattle.run_words.specs.declared.form.Form.{Form}
-use Rattle.run_words.specs.declared.form.Form.TheVariants.{Numbers, CubePlace, HighOrLow, YesOrNo, FileName, Seed, SeedAndCount}
+use Rattle.run_words.specs.declared.form.Form.TheVariants.{Number, Numbers, CubePlace, HighOrLow, YesOrNo, FileName, Seed, SeedAndCount}
 use Rattle.run_words.specs.declared.option.OptionName.{OptionName}
 use Rattle.run_words.specs.declared.option.OptionName.TheVariants as name
 use Rattle.run_words.specs.declared.option.OptionRow.{OptionRow}
@@ -57,10 +57,10 @@ needed name commands form = record { name = name; word = option_word name; comma
 
 -- one number in a range
 abbrev pub one : ℕ → ℕ → Form
-one low high = Numbers 1 (pos low) (pos high)
+one low high = Number (pos low) (pos high)
 
 -- the table
-abbrev pub options : List OptionRowValue
+unfoldable pub options : List OptionRowValue
 options =
     optional name.Cube (Nodes ∷ Image ∷ Replay ∷ Live ∷ []) CubePlace
     ∷ optional name.Leaf (Nodes ∷ Image ∷ Replay ∷ Demo ∷ Live ∷ []) (one 1 50000)

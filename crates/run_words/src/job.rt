@@ -58,7 +58,7 @@ pub struct Job {
 
 impl Model for Job {
     ghost use Rattle.std.specs.Prelude.{map, option_map, string_bytes};
-    ghost use Rattle.run_words.specs.Jobs.{JobValue};
+    ghost use Rattle.run_words.specs.Values.{JobValue};
 
     ghost Value = { JobValue };
 

@@ -6,9 +6,11 @@ mod form;
 mod job;
 mod number;
 mod option;
+mod screen;
+mod value;
 mod words;
 
 pub use command::CommandName;
 pub use job::Job;
 pub use option::OptionName;
-pub use words::WordsFault;
+pub use words::{WordsFault, read_words};

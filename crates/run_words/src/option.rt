@@ -75,6 +75,7 @@ pub(crate) struct OptionRow {
 }
 
 /// All options, in the order in which their values are tested.
+#[tactic(auto, unfolding(crate::specs::Options::options))]
 pub(crate) fn options() -> &'static [OptionRow]
     ensures { map row_value result.now ≡ options }
 {
@@ -104,8 +105,7 @@ const OPTIONS: [OptionRow; 23] = [
             CommandName::Demo,
             CommandName::Live,
         ],
-        form: Form::Numbers {
-            count: 1,
+        form: Form::Number {
             low: 1,
             high: 50_000,
         },
@@ -121,8 +121,7 @@ const OPTIONS: [OptionRow; 23] = [
             CommandName::Demo,
             CommandName::Live,
         ],
-        form: Form::Numbers {
-            count: 1,
+        form: Form::Number {
             low: 1,
             high: 200_000,
         },
@@ -138,8 +137,7 @@ const OPTIONS: [OptionRow; 23] = [
             CommandName::Demo,
             CommandName::Live,
         ],
-        form: Form::Numbers {
-            count: 1,
+        form: Form::Number {
             low: 1,
             high: 10_000_000,
         },
@@ -149,8 +147,7 @@ const OPTIONS: [OptionRow; 23] = [
         name: OptionName::Chunks,
         word: "chunks",
         commands: &[CommandName::Replay, CommandName::Live],
-        form: Form::Numbers {
-            count: 1,
+        form: Form::Number {
             low: 1,
             high: 1_000_000,
         },
@@ -166,8 +163,7 @@ const OPTIONS: [OptionRow; 23] = [
             CommandName::Demo,
             CommandName::Live,
         ],
-        form: Form::Numbers {
-            count: 1,
+        form: Form::Number {
             low: 1,
             high: 50_000,
         },
@@ -183,11 +179,7 @@ const OPTIONS: [OptionRow; 23] = [
             CommandName::Replay,
             CommandName::Live,
         ],
-        form: Form::Numbers {
-            count: 1,
-            low: 0,
-            high: 9,
-        },
+        form: Form::Number { low: 0, high: 9 },
         required: false,
     },
     OptionRow {
@@ -236,8 +228,7 @@ const OPTIONS: [OptionRow; 23] = [
         name: OptionName::Focal,
         word: "focal",
         commands: &[CommandName::Image, CommandName::Replay, CommandName::Live],
-        form: Form::Numbers {
-            count: 1,
+        form: Form::Number {
             low: 1,
             high: 65_536,
         },
@@ -247,8 +238,7 @@ const OPTIONS: [OptionRow; 23] = [
         name: OptionName::Near,
         word: "near",
         commands: &[CommandName::Image, CommandName::Replay, CommandName::Live],
-        form: Form::Numbers {
-            count: 1,
+        form: Form::Number {
             low: 1,
             high: 1_000_000_000,
         },
@@ -269,8 +259,7 @@ const OPTIONS: [OptionRow; 23] = [
         name: OptionName::Threshold,
         word: "threshold",
         commands: &[CommandName::Image, CommandName::Replay, CommandName::Live],
-        form: Form::Numbers {
-            count: 1,
+        form: Form::Number {
             low: 1,
             high: 65_536,
         },
@@ -280,44 +269,28 @@ const OPTIONS: [OptionRow; 23] = [
         name: OptionName::Dot,
         word: "dot",
         commands: &[CommandName::Image, CommandName::Replay, CommandName::Live],
-        form: Form::Numbers {
-            count: 1,
-            low: 1,
-            high: 64,
-        },
+        form: Form::Number { low: 1, high: 64 },
         required: false,
     },
     OptionRow {
         name: OptionName::Loaders,
         word: "loaders",
         commands: &[CommandName::Replay, CommandName::Live],
-        form: Form::Numbers {
-            count: 1,
-            low: 1,
-            high: 16,
-        },
+        form: Form::Number { low: 1, high: 16 },
         required: false,
     },
     OptionRow {
         name: OptionName::Viewers,
         word: "viewers",
         commands: &[CommandName::Replay, CommandName::Live],
-        form: Form::Numbers {
-            count: 1,
-            low: 1,
-            high: 16,
-        },
+        form: Form::Number { low: 1, high: 16 },
         required: false,
     },
     OptionRow {
         name: OptionName::Frames,
         word: "frames",
         commands: &[CommandName::Replay, CommandName::Live],
-        form: Form::Numbers {
-            count: 1,
-            low: 1,
-            high: 100,
-        },
+        form: Form::Number { low: 1, high: 100 },
         required: false,
     },
     OptionRow {
@@ -345,8 +318,7 @@ const OPTIONS: [OptionRow; 23] = [
         name: OptionName::Count,
         word: "count",
         commands: &[CommandName::Demo],
-        form: Form::Numbers {
-            count: 1,
+        form: Form::Number {
             low: 1,
             high: 10_000_000,
         },

@@ -1,0 +1,4 @@
+pub mod Batches
+pub mod Causes
+pub mod FaultKinds
+pub mod Statuses

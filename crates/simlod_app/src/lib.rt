@@ -1,2 +1,12 @@
-//! simlod_app
+//! The top call: what a run of the program does with its words, its files, its output and its error stream.
 #![tactic(auto)]
+
+mod faults;
+mod nodes;
+mod plain;
+mod scan;
+mod status;
+mod usage;
+
+pub use plain::simlod_plain;
+pub use status::Status;

@@ -1,1 +1,9 @@
+pub mod Cuts
+pub mod DecimalLemmas
 pub mod Examples
+pub mod FieldLemmas
+pub mod FloorLemmas
+pub mod LineLemmas
+pub mod NumberLemmas
+pub mod ReadingLemmas
+pub mod ScaleLemmas

@@ -28,7 +28,11 @@ is_separator b = b == 32 || b == 9 || b == 44
 abbrev pub fields_of : List ℕ → List (List ℕ)
 fields_of line = filter (λ field. not (is_empty field)) (slice_split is_separator line)
 
+-- whether a field begins a comment
+abbrev pub is_comment : List ℕ → Bool
+is_comment field = starts_with nat_eq field (codes "#") || starts_with nat_eq field (codes "//")
+
 -- whether a line of these fields says nothing: it has none, or it is a comment
 abbrev pub is_skipped : List (List ℕ) → Bool
 is_skipped [] = true
-is_skipped (first ∷ more) = starts_with nat_eq first (codes "#") || starts_with nat_eq first (codes "//")
+is_skipped (first ∷ more) = is_comment first

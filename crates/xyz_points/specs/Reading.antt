@@ -19,22 +19,22 @@ abbrev pub fault_at : ℕ → ℕ → FieldFault → XyzFault
 fault_at line field Malformed = Number line field
 fault_at line field OutOfRange = Range line field
 
--- what a field at its place is worth
-abbrev pub at : {X : Type 0} → ℕ → ℕ → Result X FieldFault → Result X XyzFault
-at line field (Ok x) = Ok x
-at line field (Err e) = Err (fault_at line field e)
+-- the value of a field, or its fault at its place
+abbrev pub result_at : {X : Type 0} → ℕ → ℕ → Result X FieldFault → Result X XyzFault
+result_at line field (Ok x) = Ok x
+result_at line field (Err e) = Err (fault_at line field e)
 
 -- the colour number of white
-abbrev pub white : ℕ
-white = 65536 * 255 + 256 * 255 + 255
+abbrev pub white_rgb : ℕ
+white_rgb = 65536 * 255 + 256 * 255 + 255
 
 -- the white point of the first three fields
 abbrev pub white_point : ℕ → ℕ → List ℕ → List ℕ → List ℕ → Result PointValue XyzFault
 white_point d line x y z =
-    and_then (at line 1 (coordinate d x)) (λ x.
-    and_then (at line 2 (coordinate d y)) (λ y.
-    and_then (at line 3 (coordinate d z)) (λ z.
-    Ok (record { x = x; y = y; z = z; rgb = white }))))
+    and_then (result_at line 1 (coordinate d x)) (λ x.
+    and_then (result_at line 2 (coordinate d y)) (λ y.
+    and_then (result_at line 3 (coordinate d z)) (λ z.
+    Ok (record { x = x; y = y; z = z; rgb = white_rgb }))))
 
 -- the point, where the fourth field is an intensity
 abbrev pub with_intensity : ℕ → List ℕ → PointValue → Result PointValue XyzFault
@@ -43,9 +43,9 @@ with_intensity line i p = if is_decimal i then Ok p else Err (Number line 4)
 -- the point in the colour of three fields, of which this is the place of the first
 abbrev pub with_colour : ℕ → ℕ → List ℕ → List ℕ → List ℕ → PointValue → Result PointValue XyzFault
 with_colour line field r g b p =
-    and_then (at line field (colour r)) (λ r.
-    and_then (at line (field + 1) (colour g)) (λ g.
-    and_then (at line (field + 2) (colour b)) (λ b.
+    and_then (result_at line field (colour r)) (λ r.
+    and_then (result_at line (field + 1) (colour g)) (λ g.
+    and_then (result_at line (field + 2) (colour b)) (λ b.
     Ok (record p { rgb = 65536 * r + 256 * g + b }))))
 
 -- the point of a line of fields
@@ -61,15 +61,15 @@ line_point d line fields = Err (Fields line (length fields))
 abbrev pub line_reading : ℕ → ℕ → List ℕ → Option (Result PointValue XyzFault)
 line_reading d line text = if is_skipped (fields_of text) then None else Some (line_point d line (fields_of text))
 
--- the values in order, or the first error
-abbrev pub collected : {X E : Type 0} → List (Result X E) → Result (List X) E
-collected [] = Ok []
-collected (Ok x ∷ more) = and_then (collected more) (λ xs. Ok (x ∷ xs))
-collected (Err e ∷ more) = Err e
+-- the values of a list of results, or the first error among them
+abbrev pub all_or_first_error : {X E : Type 0} → List (Result X E) → Result (List X) E
+all_or_first_error [] = Ok []
+all_or_first_error (Ok x ∷ more) = and_then (all_or_first_error more) (λ xs. Ok (x ∷ xs))
+all_or_first_error (Err e ∷ more) = Err e
 
 -- the points of a text with d decimals, or its first fault
 unfoldable pub xyz : ℕ → List ℕ → Result (List PointValue) XyzFault
-xyz d bytes = collected (filter_map (λ l. line_reading d l.0 l.1) (enumerate_from 1 (lines_of bytes)))
+xyz d bytes = all_or_first_error (filter_map (λ l. line_reading d l.0 l.1) (enumerate_from 1 (lines_of bytes)))
 
 -- what a fault says of the text: want of memory says nothing
 abbrev pub IsFault : ℕ → List ℕ → XyzFault → Type 0

@@ -1,6 +1,5 @@
-ghost use Rattle.std.specs.Prelude.{◌≡◌, ◌∷◌, [], ◌<◌, ◌≤◌, not, nat_eq, codes, ◌||◌, length, position, IfSome, IfNone};
-ghost use Rattle.std.specs.List.{starts_with};
-ghost use Rattle.xyz_points.specs.Lines.{is_separator, fields_of};
+ghost use Rattle.std.specs.Prelude.{◌≡◌, ◌∷◌, [], ◌<◌, ◌≤◌, not, length, position, IfSome, IfNone};
+ghost use Rattle.xyz_points.specs.Lines.{is_separator, fields_of, is_comment};
 
 fn is_separator(b: u8) -> bool
     ensures { result ≡ is_separator b }
@@ -24,7 +23,9 @@ fn separator_in(line: &[u8]) -> Option<usize>
 
 /// The first field of a line, and what stands behind it.
 pub fn next_field(line: &[u8]) -> Option<(&[u8], &[u8])>
-    ensures { IfSome result (λ t. length t.1.now < length line.now) }
+    ensures none { IfNone result (fields_of line.now ≡ []) }
+    ensures some { IfSome result (λ t. fields_of line.now ≡ t.0.now ∷ fields_of t.1.now) }
+    ensures shorter { IfSome result (λ t. length t.1.now < length line.now) }
 {
     let line = &line[field_in(line)?..];
     match separator_in(line) {
@@ -35,14 +36,15 @@ pub fn next_field(line: &[u8]) -> Option<(&[u8], &[u8])>
 
 /// Whether a field begins a comment.
 pub fn is_comment(field: &[u8]) -> bool
-    ensures { result ≡ (starts_with nat_eq field.now (codes "#") || starts_with nat_eq field.now (codes "//")) }
+    ensures { result ≡ is_comment field.now }
 {
     field.starts_with(b"#") || field.starts_with(b"//")
 }
 
 /// How many fields a line has.
 pub fn count_fields(line: &[u8]) -> u64
-    ensures { result ≤ length line.now }
+    ensures count { result ≡ length (fields_of line.now) }
+    ensures few { result ≤ length line.now }
 {
     let mut count = 0;
     let mut rest = line;

@@ -1,4 +1,4 @@
-ghost use Rattle.std.specs.Prelude.{◌≡◌, ◌∷◌, [], ◌<◌, ◌==◌, length, position, IfSome, IfNone};
+ghost use Rattle.std.specs.Prelude.{◌≡◌, ◌∷◌, [], ◌<◌, ◌==◌, length, count_by, position, IfSome, IfNone};
 ghost use Rattle.xyz_points.specs.Lines.{lines_of, without_return};
 
 /// Where the first line feed stands.
@@ -20,7 +20,9 @@ fn without_return(line: &[u8]) -> &[u8]
 
 /// The first line of a text, and what stands behind its line feed.
 pub fn next_line(bytes: &[u8]) -> Option<(&[u8], &[u8])>
-    ensures { IfSome result (λ t. length t.1.now < length bytes.now) }
+    ensures none { IfNone result (lines_of bytes.now ≡ []) }
+    ensures some { IfSome result (λ t. lines_of bytes.now ≡ t.0.now ∷ lines_of t.1.now) }
+    ensures shorter { IfSome result (λ t. length t.1.now < length bytes.now) }
 {
     if bytes.is_empty() {
         return None;
@@ -32,6 +34,12 @@ pub fn next_line(bytes: &[u8]) -> Option<(&[u8], &[u8])>
 }
 
 /// How many line feeds a text has.
-pub fn count_feeds(bytes: &[u8]) -> usize {
-    bytes.iter().filter(|b| **b == b'\n').count()
+pub fn count_feeds(bytes: &[u8]) -> usize
+    ensures { result ≡ count_by (λ b. b == 10) bytes.now }
+{
+    let mut feeds = 0;
+    for b in bytes {
+        feeds += usize::from(*b == b'\n');
+    }
+    feeds
 }

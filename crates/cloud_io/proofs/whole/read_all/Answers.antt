@@ -1,6 +1,6 @@
-use Rattle.std.proofs.Common.{arith, Global, ℕ, ◌+◌, Some, ◌≡◌, ◌∙◌, ap, sym, refl, length}
+use Rattle.std.proofs.Common.{arith, Global, ℕ, ◌+◌, ◌++◌, take, Some, ◌≡◌, ◌∙◌, ap, sym, refl, length}
 use Rattle.cloud_io.proofs.Endings.{err_is, told_unopened, place_unopened, causes_unopened, others_more}
-use Rattle.cloud_io.proofs.Prefixes.{begun_none, begun_more, begun_whole, begun_long, fits_told, grown, stands_more}
+use Rattle.cloud_io.proofs.Prefixes.{begun_none, begun_more, begun_whole, begun_long, grown, stands_more}
 use Rattle.cloud_io.proofs.whole.read_all.Goals as goal
 
 pub returns-in_err-file-clause-told : goal.returns-in_err-file-clause-told
@@ -26,6 +26,7 @@ returns-in_err-n-clause-causes g c = rw (err_is _ _ c.from_residual-in_err-n.ens
 pub loop-bytes-init : goal.loop-bytes-init
 loop-bytes-init g c = record {
   room = omega (arith, c.in_ok-buffer.ensures.len, c.as_mut_slice-piece.ensures.len);
+  small = omega (arith, c.in_ok-buffer.ensures.len, c.as_mut_slice-piece.ensures.len);
   few = omega (arith, ap length c.new-bytes.ensures.items);
   files = c.in_ok-file.ensures.files;
   stands = c.in_ok-file.ensures.opens.0 ∙ ap (λ (k : ℕ). Some (c.args.name.now, k)) (sym (ap length c.new-bytes.ensures.items));
@@ -36,14 +37,17 @@ loop-bytes-init g c = record {
 }
 
 pub returns-then-n-eq0-clause-told : goal.returns-then-n-eq0-clause-told
-returns-then-n-eq0-clause-told g c = fits_told (g.I.Inputs.files c.args.inputs.now) c.args.name.now c.args.most c.loop-bytes.bytes.items (begun_whole _ (g.I.Inputs.files c.loop-bytes.inputs) (g.I.Inputs.opened c.loop-bytes.inputs) c.in_ok-file.file _ _ c.read.new.buf c.in_ok-n.n c.loop-bytes.invariant.files c.loop-bytes.invariant.begun c.loop-bytes.invariant.stands c.in_ok-n.ensures.gives c.if-n-eq0.true (omega (arith, c.loop-bytes.invariant.room))) c.loop-bytes.invariant.few
+returns-then-n-eq0-clause-told g c = begun_whole _ (g.I.Inputs.files c.loop-bytes.inputs) (g.I.Inputs.opened c.loop-bytes.inputs) c.in_ok-file.file _ _ c.read.new.buf c.in_ok-n.n c.loop-bytes.invariant.files c.loop-bytes.invariant.begun c.loop-bytes.invariant.stands c.in_ok-n.ensures.gives c.if-n-eq0.true (omega (arith, c.loop-bytes.invariant.room))
 
 pub returns-then-n-eq0-clause-place : goal.returns-then-n-eq0-clause-place
-returns-then-n-eq0-clause-place g c = (record {
-  file = c.in_ok-file.file;
-  stands = stands_more _ _ _ _ _ c.in_ok-n.n _ c.loop-bytes.invariant.stands c.in_ok-n.ensures.moves (omega arith) (omega (arith, c.loop-bytes.invariant.few));
-  others = others_more _ _ _ _ c.loop-bytes.invariant.others c.in_ok-n.ensures.moves.1;
-}, c.loop-bytes.invariant.few)
+returns-then-n-eq0-clause-place g c = (
+  record {
+    file = c.in_ok-file.file;
+    stands = stands_more _ _ _ _ _ c.in_ok-n.n _ c.loop-bytes.invariant.stands c.in_ok-n.ensures.moves (omega arith) (omega (arith, c.loop-bytes.invariant.few));
+    others = others_more _ _ _ _ c.loop-bytes.invariant.others c.in_ok-n.ensures.moves.1;
+  },
+  c.loop-bytes.invariant.few,
+)
 
 pub returns-then-n-eq0-clause-causes : goal.returns-then-n-eq0-clause-causes
 returns-then-n-eq0-clause-causes g c = record {
@@ -64,23 +68,29 @@ returns-in_err-extend_from_slice-clause-causes g c = rw (err_is _ _ c.from_resid
   no_file_rose = λ e. cc;
 }
 
-pub returns-then-len-most-clause-told : goal.returns-then-len-most-clause-told
-returns-then-len-most-clause-told g c =
-    begun_long (g.I.Inputs.files c.args.inputs.now) c.args.name.now c.extend_from_slice.new.self.items _
-    (begun_more (g.I.Inputs.files c.args.inputs.now) (g.I.Inputs.files c.loop-bytes.inputs) (g.I.Inputs.opened c.loop-bytes.inputs) c.in_ok-file.file c.args.name.now c.loop-bytes.bytes.items c.read.new.buf c.extend_from_slice.new.self.items c.in_ok-n.n c.loop-bytes.invariant.files c.loop-bytes.invariant.begun c.loop-bytes.invariant.stands c.in_ok-n.ensures.bound.0 c.in_ok-n.ensures.gives c.in_ok-extend_from_slice.ensures.items)
-    (omega (arith, c.if-len-most.true, c.extend_from_slice.new.self.ok.0))
+pub returns-then-len-n-clause-told : goal.returns-then-len-n-clause-told
+returns-then-len-n-clause-told g c =
+    let come = c.loop-bytes.bytes.items ++ take c.in_ok-n.n c.read.new.buf in
+    begun_long (g.I.Inputs.files c.args.inputs.now) c.args.name.now come _
+    (begun_more (g.I.Inputs.files c.args.inputs.now) (g.I.Inputs.files c.loop-bytes.inputs) (g.I.Inputs.opened c.loop-bytes.inputs) c.in_ok-file.file c.args.name.now c.loop-bytes.bytes.items c.read.new.buf come c.in_ok-n.n c.loop-bytes.invariant.files c.loop-bytes.invariant.begun c.loop-bytes.invariant.stands c.in_ok-n.ensures.bound.0 c.in_ok-n.ensures.gives refl)
+    (omega (arith, grown come _ _ c.read.new.buf refl c.in_ok-n.ensures.bound.0, c.if-len-n.true, c.len.ensures, c.loop-bytes.bytes.ok.0))
 
-pub returns-then-len-most-clause-place : goal.returns-then-len-most-clause-place
-returns-then-len-most-clause-place g c =
-    let sum : length c.extend_from_slice.new.self.items ≡ length c.loop-bytes.bytes.items + c.in_ok-n.n = grown _ _ _ c.read.new.buf c.in_ok-extend_from_slice.ensures.items c.in_ok-n.ensures.bound.0 in
-    (refl, (length c.extend_from_slice.new.self.items, omega (arith, c.if-len-most.true, c.extend_from_slice.new.self.ok.0), record {
+pub returns-then-len-n-clause-place : goal.returns-then-len-n-clause-place
+returns-then-len-n-clause-place g c = (
+  refl,
+  (
+    c.len.result + c.in_ok-n.n,
+    c.if-len-n.true,
+    record {
       file = c.in_ok-file.file;
-      stands = stands_more _ _ _ _ _ c.in_ok-n.n _ c.loop-bytes.invariant.stands c.in_ok-n.ensures.moves sum (omega (arith, c.extend_from_slice.new.self.ok.0, c.extend_from_slice.new.self.ok.1, c.extend_from_slice.new.self.small));
+      stands = stands_more _ _ _ _ _ c.in_ok-n.n _ c.loop-bytes.invariant.stands c.in_ok-n.ensures.moves (omega (arith, c.len.ensures, c.loop-bytes.bytes.ok.0)) (omega (arith, c.len.ensures, c.loop-bytes.bytes.ok.1, c.loop-bytes.bytes.small, c.loop-bytes.invariant.small, c.in_ok-n.ensures.bound.0));
       others = others_more _ _ _ _ c.loop-bytes.invariant.others c.in_ok-n.ensures.moves.1;
-    }))
+    },
+  ),
+)
 
-pub returns-then-len-most-clause-causes : goal.returns-then-len-most-clause-causes
-returns-then-len-most-clause-causes g c = record {
+pub returns-then-len-n-clause-causes : goal.returns-then-len-n-clause-causes
+returns-then-len-n-clause-causes g c = record {
   faults_later = omega (arith, c.loop-bytes.invariant.faults_later, c.in_ok-n.ensures.cause.later);
   missing_later = omega (arith, c.loop-bytes.invariant.missing_later, c.in_ok-n.ensures.missing);
   failed_rose = λ e. cc;
@@ -92,7 +102,8 @@ loop-bytes-preserved g c =
     let sum : length c.extend_from_slice.new.self.items ≡ length c.loop-bytes.bytes.items + c.in_ok-n.n = grown _ _ _ c.read.new.buf c.in_ok-extend_from_slice.ensures.items c.in_ok-n.ensures.bound.0 in
     record {
       room = omega (arith, c.loop-bytes.invariant.room);
-      few = omega (arith, c.if-len-most.false, c.extend_from_slice.new.self.ok.0);
+      small = omega (arith, c.loop-bytes.invariant.small);
+      few = omega (arith, sum, c.if-len-n.false, c.len.ensures, c.loop-bytes.bytes.ok.0);
       files = c.in_ok-n.ensures.files ∙ c.loop-bytes.invariant.files;
       stands = stands_more _ _ _ _ _ c.in_ok-n.n _ c.loop-bytes.invariant.stands c.in_ok-n.ensures.moves sum (omega (arith, c.extend_from_slice.new.self.ok.0, c.extend_from_slice.new.self.ok.1, c.extend_from_slice.new.self.small));
       others = others_more _ _ _ _ c.loop-bytes.invariant.others c.in_ok-n.ensures.moves.1;

@@ -1,4 +1,4 @@
-use Rattle.std.proofs.Common.{◌≡◌, ◌+◌, ◌-◌, ◌<◌, ◌≤◌, length, Some}
+use Rattle.std.proofs.Common.{◌≡◌, ◌-◌, ◌^◌, ◌<◌, ◌≤◌, length, Some}
 use Rattle.cloud_io.specs.Files.{SameElsewhere}
 use Rattle.cloud_io.proofs.Prefixes.{HasBegun}
 use Rattle.cloud_io.proofs.whole.read_all.Given as goal
@@ -6,6 +6,7 @@ use Rattle.cloud_io.proofs.whole.read_all.Given as goal
 abbrev pub invariant-loop-bytes : goal.invariant-loop-bytes
 invariant-loop-bytes g l = record {
   room : 0 < length l.piece;
+  small : length l.piece ≤ 2 ^ 16;
   few : length l.bytes.items ≤ l.most;
   files : g.I.Inputs.files l.inputs ≡ g.I.Inputs.files l.fn.inputs;
   stands : g.I.Inputs.opened l.inputs l.file ≡ Some (l.name, length l.bytes.items);

@@ -1,6 +1,6 @@
 use Rattle.std.proofs.Common.{◌≡◌, take, fold}
 use Rattle.std.specs.Int.{int_min, int_max}
-use Rattle.octree_plain.specs.Fitting.{least_of, greatest_of, on_x, on_y, on_z}
+use Rattle.octree_plain.specs.Fitting.{on_x, on_y, on_z}
 use Rattle.octree_plain.proofs.fitting.extents_of.Given as goal
 
 abbrev pub invariant-loop-p : goal.invariant-loop-p

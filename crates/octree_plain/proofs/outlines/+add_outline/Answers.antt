@@ -39,11 +39,10 @@ add_outline-requires t c =
     let at : c.t-item.result ≡ get_or c.in-Inner.node.trees c.loop-g.g c.t-item.result =
     c.t-item.is ∙ ap (λ (ts : List Tree). get_or ts c.loop-g.g c.t-item.result) c.trees-t-items.ensures in
     let P : CubeValue → Type 0 = λ cube. IsOctreeIn cube c.t-item.result in
-    let bits : c.child-in-loop-g.result.bits ≡ c.args.cube.bits - 1 = ap (λ (k : CubeValue). k.bits) c.child-in-loop-g.ensures in
-    (
+    let bits : c.child-in-loop-g.result.bits ≡ c.args.cube.bits - 1 = ap (λ (k : CubeValue). k.bits) c.child-in-loop-g.ensures in (
       omega (arith, bits, inner.splits),
       (
         subst P (sym c.child-in-loop-g.ensures) (inner.below c.loop-g.g c.t-item.result low at),
-        omega (arith, ap length c.child.ensures, length_push c.args.path c.loop-g.g, bits, inner.splits, c.requires.room)
-      )
+        omega (arith, ap length c.child.ensures, length_push c.args.path c.loop-g.g, bits, inner.splits, c.requires.room),
+      ),
     )

@@ -1,0 +1,87 @@
+-- What the values of options stand for, and the job that they make.
+use Rattle.std.specs.Prelude.{ℕ, ℤ, pos, List, [], ◌∷◌, Bool, false, Option, option_map, map, codes}
+use Rattle.std.specs.Option.{option_map_or}
+use Rattle.std.specs.Str.{bytes_eq}
+use Rattle.cube_math.specs.Cubes.{CubeValue}
+use Rattle.run_words.specs.Commands.{Text}
+use Rattle.run_words.specs.Numbers.{natural, whole, pieces, piece}
+use Rattle.run_words.specs.Screens.{value_of, files_of}
+use Rattle.run_words.specs.declared.command.CommandName.{CommandName}
+
+-- a job as contracts see it: its command, its files, and a value for each option
+pub record JobValue : Type 0 where
+  pub command : CommandName
+  pub files : List Text
+  pub cube : Option CubeValue
+  pub leaf : ℕ
+  pub nodes : ℕ
+  pub points : ℕ
+  pub chunks : Option ℕ
+  pub batch : ℕ
+  pub decimals : ℕ
+  pub low : Bool
+  pub voxels : Bool
+  pub pos : List ℤ
+  pub rows : List ℤ
+  pub focal : ℕ
+  pub near : ℕ
+  pub size : ℕ × ℕ
+  pub threshold : ℕ
+  pub dot : ℕ
+  pub loaders : ℕ
+  pub viewers : ℕ
+  pub frames : ℕ
+  pub schedule : Option Text
+  pub generate : Option (ℕ × ℕ)
+  pub seed : ℕ
+  pub count : ℕ
+
+-- the number of an option, or its default
+abbrev pub number_or : ℕ → Text → List Text → ℕ
+number_or default name words = option_map_or natural (value_of name words) default
+
+-- the numbers of an option, or their default
+abbrev pub numbers_or : List ℤ → Text → List Text → List ℤ
+numbers_or default name words = option_map_or (λ text. map whole (pieces text)) (value_of name words) default
+
+-- whether an option has this value
+abbrev pub is_chosen : Text → Text → List Text → Bool
+is_chosen choice name words = option_map_or (λ text. bytes_eq text choice) (value_of name words) false
+
+-- the cube of a value x,y,z,bits
+abbrev pub cube_of : Text → CubeValue
+cube_of text = record { ox = whole (piece text 0); oy = whole (piece text 1); oz = whole (piece text 2); bits = natural (piece text 3) }
+
+-- the two numbers of a value
+abbrev pub pair_of : Text → ℕ × ℕ
+pair_of text = (natural (piece text 0), natural (piece text 1))
+
+-- the job of a command and of words that suit it and whose values fit
+unfoldable pub job_of : CommandName → List Text → JobValue
+job_of command words = record {
+  command = command;
+  files = files_of words;
+  cube = option_map cube_of (value_of (codes "cube") words);
+  leaf = number_or 50000 (codes "leaf") words;
+  nodes = number_or 20000 (codes "nodes") words;
+  points = number_or 10000000 (codes "points") words;
+  chunks = option_map natural (value_of (codes "chunks") words);
+  batch = number_or 50000 (codes "batch") words;
+  decimals = number_or 3 (codes "decimals") words;
+  low = is_chosen (codes "low") (codes "rgb") words;
+  voxels = is_chosen (codes "yes") (codes "voxels") words;
+  pos = numbers_or (pos 0 ∷ pos 0 ∷ pos 0 ∷ []) (codes "pos") words;
+  rows = numbers_or (pos 1024 ∷ pos 0 ∷ pos 0 ∷ pos 0 ∷ pos 1024 ∷ pos 0 ∷ pos 0 ∷ pos 0 ∷ pos 1024 ∷ []) (codes "rows") words;
+  focal = number_or 256 (codes "focal") words;
+  near = number_or 1 (codes "near") words;
+  size = option_map_or pair_of (value_of (codes "size") words) (256, 256);
+  threshold = number_or 128 (codes "threshold") words;
+  dot = number_or 1 (codes "dot") words;
+  loaders = number_or 2 (codes "loaders") words;
+  viewers = number_or 1 (codes "viewers") words;
+  frames = number_or 2 (codes "frames") words;
+  schedule = value_of (codes "schedule") words;
+  generate = option_map pair_of (value_of (codes "generate") words);
+  seed = number_or 1 (codes "seed") words;
+  count = number_or 400000 (codes "count") words;
+}

@@ -1,0 +1,42 @@
+-- What accounts for a fault accounts for its status.
+use Rattle.std.proofs.Common.{◌≡◌, ℕ, List, Option, refl, sym, subst}
+use Rattle.run_report.specs.declared.fault.Fault.{Fault}
+use Rattle.run_report.specs.declared.fault.Fault.TheVariants.{Output, NoFile, ReadFault}
+use Rattle.simlod_app.specs.declared.status.Status.{Status}
+use Rattle.simlod_app.specs.declared.status.Status.TheVariants.{Ok as IsOk, OutputFault as IsOutputFault, Usage as IsUsage, NoFile as IsNoFile, ReadFault as IsReadFault, BadInput as IsBadInput, Limit as IsLimit, Memory as IsMemory}
+use Rattle.simlod_app.specs.Statuses.{status_of}
+use Rattle.simlod_app.specs.Causes.{InputsAccountFor, IsOwnFault, IsStatusOf, CountsAccountFor, WritesOnce}
+
+-- a fault of the run itself needs no count
+pub own_fault : (f f' m m' : ℕ) (fault : Fault) → IsOwnFault fault → InputsAccountFor f f' m m' fault
+own_fault f f' m m' Output h = absurd h
+own_fault f f' m m' (NoFile name) h = absurd h
+own_fault f f' m m' (ReadFault name) h = absurd h
+own_fault f f' m m' fault h = tt
+
+at_status : (outs f f' m m' : ℕ) (fault : Fault) → InputsAccountFor f f' m m' fault → CountsAccountFor outs outs f f' m m' (status_of fault)
+at_status outs f f' m m' Output h = absurd h
+at_status outs f f' m m' (NoFile name) h = h
+at_status outs f f' m m' (ReadFault name) h = h
+at_status outs f f' m m' fault h = tt
+
+nothing_at_status : (old : Option (List ℕ)) (f f' m m' : ℕ) (fault : Fault) → InputsAccountFor f f' m m' fault → WritesOnce old old (status_of fault)
+nothing_at_status old f f' m m' Output h = absurd h
+nothing_at_status old f f' m m' fault h = refl
+
+-- the status of a fault or want of memory has what holds of the status of the fault and of want of memory
+of_status : (P : Status → Type 0) (fault : Fault) (status : Status) → P (status_of fault) → P IsMemory → IsStatusOf fault status → P status
+of_status P fault IsMemory at memory h = memory
+of_status P fault IsOk at memory h = subst P (sym h) at
+of_status P fault IsOutputFault at memory h = subst P (sym h) at
+of_status P fault IsUsage at memory h = subst P (sym h) at
+of_status P fault IsNoFile at memory h = subst P (sym h) at
+of_status P fault IsReadFault at memory h = subst P (sym h) at
+of_status P fault IsBadInput at memory h = subst P (sym h) at
+of_status P fault IsLimit at memory h = subst P (sym h) at
+
+pub accounted : (outs f f' m m' : ℕ) (fault : Fault) (status : Status) → InputsAccountFor f f' m m' fault → IsStatusOf fault status → CountsAccountFor outs outs f f' m m' status
+accounted outs f f' m m' fault status h is = of_status (λ s. CountsAccountFor outs outs f f' m m' s) fault status (at_status outs f f' m m' fault h) tt is
+
+pub nothing_written : (old : Option (List ℕ)) (f f' m m' : ℕ) (fault : Fault) (status : Status) → InputsAccountFor f f' m m' fault → IsStatusOf fault status → WritesOnce old old status
+nothing_written old f f' m m' fault status h is = of_status (λ s. WritesOnce old old s) fault status (nothing_at_status old f f' m m' fault h) refl is

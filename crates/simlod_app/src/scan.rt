@@ -1,0 +1,73 @@
+ghost use Rattle.std.specs.Prelude.{◌≡◌, ◌≤◌, IfOk, IfErr, map, vec_items};
+ghost use Rattle.octree_model.specs.Bags.{joined};
+ghost use Rattle.run_report.specs.Faults.{HasAxis};
+ghost use Rattle.simlod_app.specs.Causes.{IsFaultOfInputs};
+
+use crate::faults;
+use cloud_io::{Inputs, read_all};
+use cube_math::Point;
+use run_report::Fault;
+use std::alloc::{AllocError, Global};
+use xyz_points::read_xyz;
+
+/// The most bytes of a file.
+const MOST_BYTES: u64 = 1_000_000_000;
+
+/// The points of each file, in the order of the files. The first file that is refused ends the reading.
+pub fn read_clouds<I: Inputs>(
+    alloc: Global,
+    inputs: &mut I,
+    files: &[String],
+    decimals: u32,
+) -> Result<Vec<Vec<Point>>, Fault>
+    requires { decimals ≤ 9 }
+    ensures files { I.files inputs.new ≡ I.files inputs.old }
+    ensures counts { IsFaultOfInputs (I.faults inputs.old) (I.faults inputs.new) (I.missing inputs.old) (I.missing inputs.new) result }
+    ensures axis { IfErr result HasAxis }
+{
+    let mut clouds = Vec::new(alloc);
+    for name in files {
+        let cloud = read_cloud(alloc, inputs, name.as_str(), decimals)?;
+        let Ok(()) = clouds.push(cloud) else {
+            return Err(Fault::Memory);
+        };
+    }
+    Ok(clouds)
+}
+
+/// The points of a file. Its bytes are let go before the answer.
+fn read_cloud<I: Inputs>(
+    alloc: Global,
+    inputs: &mut I,
+    name: &str,
+    decimals: u32,
+) -> Result<Vec<Point>, Fault>
+    requires { decimals ≤ 9 }
+    ensures files { I.files inputs.new ≡ I.files inputs.old }
+    ensures counts { IsFaultOfInputs (I.faults inputs.old) (I.faults inputs.new) (I.missing inputs.old) (I.missing inputs.new) result }
+    ensures axis { IfErr result HasAxis }
+{
+    let bytes = match read_all(alloc, inputs, name, MOST_BYTES) {
+        Ok(bytes) => bytes,
+        Err(fault) => return Err(faults::of_read(alloc, name, fault)),
+    };
+    match read_xyz(alloc, bytes.as_slice(), decimals) {
+        Ok(points) => Ok(points),
+        Err(fault) => Err(faults::of_xyz(alloc, name, fault)),
+    }
+}
+
+/// The points of all clouds, one cloud after the other. The points of a lone cloud are moved.
+pub fn join(alloc: Global, clouds: Vec<Vec<Point>>) -> Result<Vec<Point>, AllocError>
+    ensures { IfOk result (λ points. points.items ≡ joined (map vec_items clouds.items)) }
+{
+    let mut points = Vec::new(alloc);
+    for mut cloud in clouds {
+        if points.is_empty() {
+            points = cloud;
+        } else {
+            points.append(&mut cloud)?;
+        }
+    }
+    Ok(points)
+}

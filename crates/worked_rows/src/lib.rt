@@ -1,0 +1,10 @@
+//! Worked runs of the top call over files and streams in memory: what no clause can say, that a run
+//! with enough memory succeeds and prints what a person worked out.
+#![tactic(auto)]
+
+#[cfg(test)]
+mod listings;
+#[cfg(test)]
+mod refusals;
+#[cfg(test)]
+mod runs;

@@ -1,0 +1,196 @@
+use crate::runs::{run, run_in, sound};
+use simlod_app::Status;
+use std::alloc::Global;
+use std::process::Abort;
+use std::test::Fail;
+
+/// Asserts that a run over one file ends with the status, says this line and writes nothing.
+fn expect_refusal(
+    rt: &impl Abort,
+    alloc: Global,
+    line: &str,
+    text: &str,
+    status: Status,
+    said: &str,
+) -> Result<(), Fail> {
+    let outcome = run(alloc, line, &[("p.xyz", text)])?;
+    assert_eq!(rt; outcome.status, status, "at {line}");
+    assert_eq!(rt; outcome.errors.bytes(), said.as_bytes(), "at {line}");
+    assert_eq!(rt; outcome.out.bytes().len(), 0, "at {line}");
+    Ok(())
+}
+
+#[test]
+fn words_that_are_no_job_are_refused_in_order(rt: HostRuntime) -> Result<(), Fail> {
+    let rows = [
+        ("", "simlod: usage: command\n"),
+        ("list p.xyz", "simlod: usage: command\n"),
+        ("nodes", "simlod: usage: options\n"),
+        ("nodes --leaf 5 p.xyz", "simlod: usage: word 2\n"),
+        ("nodes --leaf=0 p.xyz", "simlod: usage: value of --leaf\n"),
+        ("nodes --focal=1 p.xyz", "simlod: usage: options\n"),
+        (
+            "nodes --cube=0,0,0,32 p.xyz",
+            "simlod: usage: value of --cube\n",
+        ),
+        (
+            "live --viewers=16 --frames=100 --size=256,256 p.xyz",
+            "simlod: usage: 104923136 pixels exceed 50000000\n",
+        ),
+    ];
+    for (line, said) in rows {
+        expect_refusal(&rt, rt.alloc(), line, "0 0 0\n", Status::Usage, said)?;
+    }
+    Ok(())
+}
+
+#[test]
+fn jobs_that_are_not_run_here_are_refused(rt: HostRuntime) -> Result<(), Fail> {
+    let rows = [
+        ("bounds p.xyz", "simlod: usage: command\n"),
+        ("image p.xyz", "simlod: usage: command\n"),
+        ("live p.xyz", "simlod: usage: command\n"),
+        ("replay --schedule=s p.xyz", "simlod: usage: command\n"),
+        ("demo", "simlod: usage: command\n"),
+        ("nodes p.xyz tile.LAS", "simlod: usage: word 3\n"),
+        ("nodes --leaf=2 a.laz p.xyz", "simlod: usage: word 3\n"),
+        ("nodes --nodes=8 p.xyz", "simlod: usage: options\n"),
+        ("nodes p.xyz --points=2", "simlod: usage: options\n"),
+    ];
+    for (line, said) in rows {
+        expect_refusal(&rt, rt.alloc(), line, "0 0 0\n", Status::Usage, said)?;
+    }
+    Ok(())
+}
+
+#[test]
+fn a_bad_line_is_named_with_its_field(rt: HostRuntime) -> Result<(), Fail> {
+    let rows = [
+        ("1 2 3 4 5\n", "simlod: p.xyz: line 1: 5 fields\n"),
+        (
+            "# a\n1e3 0 0\n",
+            "simlod: p.xyz: line 2 field 1: not a number\n",
+        ),
+        (
+            "0 2147484 0\n",
+            "simlod: p.xyz: line 1 field 2: out of range\n",
+        ),
+        (
+            "0 0 0 256 0 0\n",
+            "simlod: p.xyz: line 1 field 4: out of range\n",
+        ),
+    ];
+    for (text, said) in rows {
+        expect_refusal(&rt, rt.alloc(), "nodes p.xyz", text, Status::BadInput, said)?;
+    }
+    Ok(())
+}
+
+#[test]
+fn a_missing_file_is_named(rt: HostRuntime) -> Result<(), Fail> {
+    let alloc = rt.alloc();
+    let line = "nodes p.xyz three.xyz";
+    expect_refusal(
+        &rt,
+        alloc,
+        line,
+        "0 0 0\n",
+        Status::NoFile,
+        "simlod: no file three.xyz\n",
+    )
+}
+
+#[test]
+fn a_point_outside_the_given_cube_names_its_batch(rt: HostRuntime) -> Result<(), Fail> {
+    let alloc = rt.alloc();
+    let line = "nodes --decimals=0 --cube=0,0,0,7 p.xyz";
+    let said = "simlod: limit: batch 0 outside 0\n";
+    expect_refusal(&rt, alloc, line, "128 0 0\n", Status::Limit, said)?;
+    let line = "nodes --decimals=0 --cube=0,0,0,7 --batch=2 p.xyz p.xyz";
+    let said = "simlod: limit: batch 1 outside 0\n";
+    expect_refusal(
+        &rt,
+        alloc,
+        line,
+        "0 0 0\n1 0 0\n-1 0 0\n",
+        Status::Limit,
+        said,
+    )?;
+    let files = [
+        ("a.xyz", "0 0 0\n1 0 0\n2 0 0\n"),
+        ("b.xyz", "3 0 0\n0 128 0\n"),
+    ];
+    let line = "nodes --decimals=0 --cube=0,0,0,7 --batch=2 a.xyz b.xyz";
+    let outcome = run(alloc, line, &files)?;
+    assert_eq!(rt; outcome.status, Status::Limit);
+    assert_eq!(rt;
+        outcome.errors.bytes(),
+        "simlod: limit: batch 2 outside 1\n".as_bytes()
+    );
+    Ok(())
+}
+
+#[test]
+fn points_too_far_apart_have_no_cube(rt: HostRuntime) -> Result<(), Fail> {
+    let text = "-2147483648 0 0\n2147483647 0 0\n";
+    let said = "simlod: limit: axis x spans 4294967295\n";
+    expect_refusal(
+        &rt,
+        rt.alloc(),
+        "nodes --decimals=0 p.xyz",
+        text,
+        Status::Limit,
+        said,
+    )
+}
+
+const THREE: &[(&str, &str)] = &[("three.xyz", "0 0 0\n1 0 0\n200 0 0\n")];
+
+const LINE: &str = "nodes --decimals=0 --leaf=2 three.xyz";
+
+#[test]
+fn a_failing_output_keeps_a_first_part(rt: HostRuntime) -> Result<(), Fail> {
+    let alloc = rt.alloc();
+    let mut outside = sound(alloc);
+    outside.piece = 10;
+    outside.out.push(2)?;
+    let outcome = run_in(alloc, LINE, THREE, outside)?;
+    assert_eq!(rt; outcome.status, Status::OutputFault);
+    assert_eq!(rt; outcome.out.bytes(), "cube 0 0 0".as_bytes());
+    assert_eq!(rt; outcome.errors.bytes(), "simlod: output fault\n".as_bytes());
+    Ok(())
+}
+
+#[test]
+fn a_failing_read_names_its_file(rt: HostRuntime) -> Result<(), Fail> {
+    let alloc = rt.alloc();
+    for call in 1..4u64 {
+        let mut outside = sound(alloc);
+        outside.inputs.push(call)?;
+        let outcome = run_in(alloc, LINE, THREE, outside)?;
+        assert_eq!(rt; outcome.status, Status::ReadFault, "at {call}");
+        assert_eq!(rt;
+            outcome.errors.bytes(),
+            "simlod: read fault in three.xyz\n".as_bytes()
+        );
+        assert_eq!(rt; outcome.out.bytes().len(), 0);
+    }
+    Ok(())
+}
+
+#[test]
+fn a_failing_error_stream_changes_no_status(rt: HostRuntime) -> Result<(), Fail> {
+    let alloc = rt.alloc();
+    for (line, status) in [
+        ("nodes", Status::Usage),
+        ("nodes four.xyz", Status::NoFile),
+        ("nodes --decimals=0 --cube=0,0,0,7 three.xyz", Status::Limit),
+    ] {
+        let mut outside = sound(alloc);
+        outside.errors.push(1)?;
+        let outcome = run_in(alloc, line, THREE, outside)?;
+        assert_eq!(rt; outcome.status, status, "at {line}");
+        assert_eq!(rt; outcome.errors.bytes().len(), 0);
+    }
+    Ok(())
+}

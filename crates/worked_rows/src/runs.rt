@@ -1,0 +1,85 @@
+//! A run in memory.
+ghost use Rattle.std.specs.Prelude.{◌≤◌};
+
+use cloud_io::{MemInputs, MemSink, NamedFile};
+use simlod_app::{Status, simlod_plain};
+use std::alloc::{AllocError, Global};
+
+/// What a run left.
+#[derive(Drop)]
+pub struct Outcome {
+    pub status: Status,
+    pub out: MemSink,
+    pub errors: MemSink,
+}
+
+/// Which calls of the outside fail, by their numbers from 1, and how much one write takes.
+#[derive(Drop)]
+pub struct Outside {
+    pub inputs: Vec<u64>,
+    pub out: Vec<u64>,
+    pub errors: Vec<u64>,
+    pub piece: usize,
+    ghost takes: { 1 ≤ piece },
+}
+
+/// An outside where nothing fails.
+pub fn sound(alloc: Global) -> Outside {
+    Outside {
+        inputs: Vec::new(alloc),
+        out: Vec::new(alloc),
+        errors: Vec::new(alloc),
+        piece: 1_000_000,
+    }
+}
+
+/// Runs the words of a line, parted by single spaces, over these files.
+pub fn run(alloc: Global, line: &str, files: &[(&str, &str)]) -> Result<Outcome, AllocError> {
+    run_in(alloc, line, files, sound(alloc))
+}
+
+/// The same in an outside where calls fail.
+pub fn run_in(
+    alloc: Global,
+    line: &str,
+    files: &[(&str, &str)],
+    outside: Outside,
+) -> Result<Outcome, AllocError> {
+    let words = words_of(alloc, line)?;
+    let Outside {
+        inputs,
+        out,
+        errors,
+        piece,
+    } = outside;
+    let mut inputs = MemInputs::new(alloc, files_of(alloc, files)?, inputs);
+    let mut out = MemSink::new(alloc, out, piece);
+    let mut errors = MemSink::new(alloc, errors, piece);
+    let status = simlod_plain(alloc, words.as_slice(), &mut inputs, &mut out, &mut errors);
+    Ok(Outcome {
+        status,
+        out,
+        errors,
+    })
+}
+
+fn words_of(alloc: Global, line: &str) -> Result<Vec<String>, AllocError> {
+    let mut words = Vec::new(alloc);
+    for word in line.split(' ') {
+        if !word.is_empty() {
+            words.push(String::from_str(alloc, word)?)?;
+        }
+    }
+    Ok(words)
+}
+
+fn files_of(alloc: Global, files: &[(&str, &str)]) -> Result<Vec<NamedFile>, AllocError> {
+    let mut named = Vec::new(alloc);
+    for (name, text) in files {
+        named.push(NamedFile {
+            name: String::from_str(alloc, name)?,
+            bytes: text.as_bytes().to_vec(alloc)?,
+        })?;
+    }
+    Ok(named)
+}

@@ -1,14 +1,16 @@
 -- Files in memory: which are found, and where those stand that were opened.
-use Rattle.std.proofs.Common.{◌≡◌, ℕ, suc, zero, ◌+◌, ◌-◌, ◌^◌, ◌<◌, ◌≤◌, min, List, ◌++◌, [], ◌∷◌, length, length-append, length-drop, get_or, set, take, drop, Option, Some, None, subst, sym, ap, ◌∙◌, refl, arith, All, string_bytes, Bool, true, false}
+use Rattle.std.proofs.Common.{◌≡◌, ℕ, suc, zero, ◌+◌, ◌-◌, ◌^◌, ◌<◌, ◌≤◌, min, List, ◌++◌, [], ◌∷◌, length, length-append, length-drop, get_or, set, take, drop, Option, Some, None, subst, sym, ap, ◌∙◌, refl, cond, arith, All, string_bytes, Bool, true, false}
 use Rattle.std.proofs.lemmas.List.{length-take-le, take_at}
 use Rattle.std.specs.Prelude.{◌≢◌, IsSome, is_some, Ok, slice_get, option_and_then, option_map, unwrap_or, if◌then◌else◌}
-use Rattle.std.specs.Str.{bytes_eq}
+use Rattle.std.specs.List.{position_or_len}
+use Rattle.std.proofs.lemmas.Bool.{ltb-false}
+use Rattle.std.proofs.lemmas.List.Folds.{find_at}
 use Rattle.std.proofs.lemmas.List.Elements.{All-push}
 use Rattle.std.proofs.lemmas.List.Quantifiers.{position-Some}
 use Rattle.std.proofs.lemmas.Slice.Eq.{bytes_eq-Decides}
-use Rattle.std.proofs.lemmas.Option.{slice_get_read, slice_get-get_or}
+use Rattle.std.proofs.lemmas.Option.{slice_get_past, slice_get_read, slice_get-get_or}
 use Rattle.cloud_io.specs.Files.{Opens, MovesBy, GivesNext, IsNext}
-use Rattle.cloud_io.specs.HeldFiles.{first_named, folder_of, opened_of, IsOpenIn}
+use Rattle.cloud_io.specs.HeldFiles.{has_name, first_named, folder_of, opened_of, IsOpenIn}
 use Rattle.cloud_io.specs.declared.named_file.NamedFile.{NamedFile}
 use Rattle.cloud_io.specs.declared.named_file.OpenFile.{OpenFile}
 
@@ -40,23 +42,35 @@ slice_get_beside (x ∷ xs) (suc i) y (suc k) ne = slice_get_beside xs i y k (λ
 
 -- a file that is found has the name
 found_name : (files : List NamedFile) (name : List ℕ) (k : ℕ) (d : NamedFile) → first_named files name ≡ Some k → string_bytes (get_or files k d).name ≡ name
-found_name files name k d e = (bytes_eq-Decides _ _).0 (position-Some (λ (g : NamedFile). bytes_eq (string_bytes g.name) name) files k d e).1
+found_name files name k d e = (bytes_eq-Decides _ _).0 (position-Some (has_name name) files k d e).1
 
 -- a file that is found is there
 found_there : (files : List NamedFile) (name : List ℕ) (k : ℕ) → first_named files name ≡ Some k → k < length files
 found_there [] name k e = cc
-found_there (f ∷ fs) name k e = (position-Some (λ (g : NamedFile). bytes_eq (string_bytes g.name) name) (f ∷ fs) k f e).0
+found_there (f ∷ fs) name k e = (position-Some (has_name name) (f ∷ fs) k f e).0
+
+-- where a test passes first
+position_is : (b : Bool) (m k : ℕ) → cond b (Some m) None ≡ Some k → m ≡ k
+position_is true m k e = ap (λ (o : Option ℕ). unwrap_or o m) e
+position_is false m k e = cc
+
+position_none : (b : Bool) (m : ℕ) → cond b (Some m) None ≡ None → b ≡ false
+position_none true m e = cc
+position_none false m e = refl
 
 -- a name that is not found has no bytes
 pub folder_none : (files : List NamedFile) (name : List ℕ) → first_named files name ≡ None → folder_of files name ≡ None
 unfolding folder_of
-folder_none files name e = ap (option_and_then (λ k. option_map (λ (f : NamedFile). f.bytes.items) (slice_get files k))) e
+folder_none files name e =
+    let k : ℕ = position_or_len (has_name name) files in
+    let past : length files ≤ k = ltb-false k (length files) (position_none _ k e) in
+    ap (option_map (λ (f : NamedFile). f.bytes.items)) (find_at (has_name name) files ∙ slice_get_past files k past)
 
 -- a name that is found has the bytes of its file
 folder_found : (files : List NamedFile) (name : List ℕ) (k : ℕ) (f : NamedFile) → first_named files name ≡ Some k → slice_get files k ≡ Some f → folder_of files name ≡ Some f.bytes.items
 unfolding folder_of
 folder_found files name k f e at =
-    ap (option_and_then (λ k. option_map (λ (f : NamedFile). f.bytes.items) (slice_get files k))) e ∙ ap (option_map (λ (f : NamedFile). f.bytes.items)) at
+    ap (option_map (λ (f : NamedFile). f.bytes.items)) (find_at (has_name name) files ∙ ap (slice_get files) (position_is _ _ k e) ∙ at)
 
 pub folder_some : (files : List NamedFile) (name : List ℕ) (k : ℕ) → first_named files name ≡ Some k → IsSome (folder_of files name)
 folder_some [] name k e = cc

@@ -1,18 +1,21 @@
 -- Files in memory, and those of them that were opened.
-use Rattle.std.specs.Prelude.{ℕ, ◌≡◌, ◌≤◌, ◌<◌, List, length, Option, Some, slice_get, slice_index_or, option_and_then, option_map, string_bytes, position}
+use Rattle.std.specs.Prelude.{ℕ, ◌≡◌, ◌≤◌, ◌<◌, List, length, Option, Some, slice_get, slice_index_or, option_and_then, option_map, string_bytes, position, find, Bool}
 use Rattle.std.specs.Str.{bytes_eq}
 use Rattle.cloud_io.specs.Files.{Folder, Opened}
 use Rattle.cloud_io.specs.declared.named_file.NamedFile.{NamedFile}
 use Rattle.cloud_io.specs.declared.named_file.OpenFile.{OpenFile}
 
+-- whether a file has the name
+abbrev pub has_name : List ℕ → NamedFile → Bool
+has_name name f = bytes_eq (string_bytes f.name) name
+
 -- the index of the first file of the name
 abbrev pub first_named : List NamedFile → List ℕ → Option ℕ
-first_named files name = position (λ f. bytes_eq (string_bytes f.name) name) files
+first_named files name = position (has_name name) files
 
 -- the bytes of each name: those of the first file of that name
 unfoldable pub folder_of : List NamedFile → Folder
-folder_of files name =
-    option_and_then (λ k. option_map (λ (f : NamedFile). f.bytes.items) (slice_get files k)) (first_named files name)
+folder_of files name = option_map (λ (f : NamedFile). f.bytes.items) (find (has_name name) files)
 
 -- the name of each opened file and the place in it
 unfoldable pub opened_of : List NamedFile → List OpenFile → Opened

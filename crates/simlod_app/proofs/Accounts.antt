@@ -3,7 +3,7 @@ use Rattle.std.proofs.Common.{◌≡◌, ℕ, List, Option, refl, sym, subst}
 use Rattle.run_report.specs.declared.fault.Fault.{Fault}
 use Rattle.run_report.specs.declared.fault.Fault.TheVariants.{Output, NoFile, ReadFault}
 use Rattle.simlod_app.specs.declared.status.Status.{Status}
-use Rattle.simlod_app.specs.declared.status.Status.TheVariants.{Ok as IsOk, OutputFault as IsOutputFault, Usage as IsUsage, NoFile as IsNoFile, ReadFault as IsReadFault, BadInput as IsBadInput, Limit as IsLimit, Memory as IsMemory}
+use Rattle.simlod_app.specs.declared.status.Status.TheVariants as ended
 use Rattle.simlod_app.specs.Statuses.{status_of}
 use Rattle.simlod_app.specs.Causes.{InputsAccountFor, IsOwnFault, IsStatusOf, CountsAccountFor, WritesOnce}
 
@@ -25,15 +25,15 @@ nothing_at_status old f f' m m' Output h = absurd h
 nothing_at_status old f f' m m' fault h = refl
 
 -- the status of a fault or want of memory has what holds of the status of the fault and of want of memory
-of_status : (P : Status → Type 0) (fault : Fault) (status : Status) → P (status_of fault) → P IsMemory → IsStatusOf fault status → P status
-of_status P fault IsMemory at memory h = memory
-of_status P fault IsOk at memory h = subst P (sym h) at
-of_status P fault IsOutputFault at memory h = subst P (sym h) at
-of_status P fault IsUsage at memory h = subst P (sym h) at
-of_status P fault IsNoFile at memory h = subst P (sym h) at
-of_status P fault IsReadFault at memory h = subst P (sym h) at
-of_status P fault IsBadInput at memory h = subst P (sym h) at
-of_status P fault IsLimit at memory h = subst P (sym h) at
+of_status : (P : Status → Type 0) (fault : Fault) (status : Status) → P (status_of fault) → P ended.Memory → IsStatusOf fault status → P status
+of_status P fault ended.Memory at memory h = memory
+of_status P fault ended.Ok at memory h = subst P (sym h) at
+of_status P fault ended.OutputFault at memory h = subst P (sym h) at
+of_status P fault ended.Usage at memory h = subst P (sym h) at
+of_status P fault ended.NoFile at memory h = subst P (sym h) at
+of_status P fault ended.ReadFault at memory h = subst P (sym h) at
+of_status P fault ended.BadInput at memory h = subst P (sym h) at
+of_status P fault ended.Limit at memory h = subst P (sym h) at
 
 pub accounted : (outs f f' m m' : ℕ) (fault : Fault) (status : Status) → InputsAccountFor f f' m m' fault → IsStatusOf fault status → CountsAccountFor outs outs f f' m m' status
 accounted outs f f' m m' fault status h is = of_status (λ s. CountsAccountFor outs outs f f' m m' s) fault status (at_status outs f f' m m' fault h) tt is

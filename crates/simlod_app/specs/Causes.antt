@@ -6,7 +6,7 @@ use Rattle.cloud_io.specs.Whole.{AppendsPrefix}
 use Rattle.run_report.specs.declared.fault.Fault.{Fault}
 use Rattle.run_report.specs.declared.fault.Fault.TheVariants.{Output, NoFile, ReadFault}
 use Rattle.simlod_app.specs.declared.status.Status.{Status}
-use Rattle.simlod_app.specs.declared.status.Status.TheVariants.{Ok as IsOk, OutputFault as IsOutputFault, NoFile as IsNoFile, ReadFault as IsReadFault, Memory as IsMemory}
+use Rattle.simlod_app.specs.declared.status.Status.TheVariants as ended
 use Rattle.simlod_app.specs.Statuses.{status_of}
 
 -- the counts of the inputs account for a fault met before the output: a missing file or a failed read comes only where its count rose
@@ -30,18 +30,18 @@ IsOwnFault fault = ⊤
 
 -- the status of a fault, or want of memory
 abbrev pub IsStatusOf : Fault → Status → Type 0
-IsStatusOf fault IsMemory = ⊤
+IsStatusOf fault ended.Memory = ⊤
 IsStatusOf fault status = (status ≡ status_of fault)
 
 -- the counts account for a status: a failed output, a missing file and a failed read come only where their count rose
 abbrev pub CountsAccountFor : (outs outs' faults faults' missing missing' : ℕ) → Status → Type 0
-CountsAccountFor outs outs' faults faults' missing missing' IsOutputFault = Rose outs outs'
-CountsAccountFor outs outs' faults faults' missing missing' IsNoFile = Rose missing missing'
-CountsAccountFor outs outs' faults faults' missing missing' IsReadFault = Rose faults faults'
+CountsAccountFor outs outs' faults faults' missing missing' ended.OutputFault = Rose outs outs'
+CountsAccountFor outs outs' faults faults' missing missing' ended.NoFile = Rose missing missing'
+CountsAccountFor outs outs' faults faults' missing missing' ended.ReadFault = Rose faults faults'
 CountsAccountFor outs outs' faults faults' missing missing' status = ⊤
 
 -- what a run did to its output: it wrote a whole text, or a first part of one where the output failed; with any other status it wrote nothing
 abbrev pub WritesOnce : Option (List ℕ) → Option (List ℕ) → Status → Type 0
-WritesOnce old new IsOk = (text : List ℕ) × Appends old new text
-WritesOnce old new IsOutputFault = (text : List ℕ) × AppendsPrefix old new text
+WritesOnce old new ended.Ok = (text : List ℕ) × Appends old new text
+WritesOnce old new ended.OutputFault = (text : List ℕ) × AppendsPrefix old new text
 WritesOnce old new status = new ≡ old

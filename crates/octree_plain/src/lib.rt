@@ -7,6 +7,8 @@ mod fitting;
 #[cfg(test)]
 mod fitting_tests;
 mod growth;
+#[cfg(test)]
+mod growth_tests;
 mod listing;
 #[cfg(test)]
 mod listing_tests;

@@ -6,3 +6,7 @@ pub mod Cubes
 pub mod Starts
 pub mod Mapped
 pub mod Screening
+pub mod Lists
+pub mod Fits
+pub mod Ranges
+pub mod JobRanges

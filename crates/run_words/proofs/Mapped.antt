@@ -1,6 +1,6 @@
 -- Searches over lists that a function was mapped over.
-use Rattle.std.proofs.Common.{◌≡◌, ℕ, ◌+◌, Bool, true, false, List, [], ◌∷◌, ◌||◌, ◌&&◌, length, ap, ◌∙◌, sym, refl, cond, map, nat_lt}
-use Rattle.std.specs.Prelude.{Option, Some, None, option_map, find, position, not, suc}
+use Rattle.std.proofs.Common.{◌≡◌, ◌+◌, Bool, true, false, List, [], ◌∷◌, ◌||◌, ◌&&◌, length, ap, ◌∙◌, refl, cond, map}
+use Rattle.std.specs.Prelude.{Option, Some, option_map, find, position, not, suc}
 use Rattle.std.specs.List.{list_any, list_all, position_or_len}
 
 module _ {X Y : Type 0} (f : X → Y) where

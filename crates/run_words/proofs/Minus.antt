@@ -1,6 +1,6 @@
 -- Texts that begin with a minus sign.
 use Rattle.std.proofs.Common.{◌≡◌, ◌≢◌, ℕ, ◌==◌, ◌&&◌, Bool, true, false, List, [], ◌∷◌, ap, refl, arith}
-use Rattle.std.specs.Prelude.{Option, Some, None, option_map, if◌then◌else◌, drop, slice_index}
+use Rattle.std.specs.Prelude.{Option, Some, None, option_map, if◌then◌else◌, drop}
 use Rattle.std.specs.Option.{MatchOption}
 use Rattle.std.specs.Borrow.{Bor}
 use Rattle.std.proofs.lemmas.Bool.Decides.{nat_tests}

@@ -1,7 +1,7 @@
 -- When a text is no numeral.
-use Rattle.std.proofs.Common.{◌≡◌, ℕ, ◌^◌, ◌&&◌, Bool, true, false, List, ap, ◌∙◌, sym, refl, arith, nat_lt}
+use Rattle.std.proofs.Common.{◌≡◌, ℕ, ◌^◌, ◌&&◌, Bool, true, false, List, ap, ◌∙◌, sym, refl, nat_lt}
 use Rattle.std.specs.Prelude.{ℤ, int_le, Option, Some, None, is_some, if◌then◌else◌, drop}
-use Rattle.run_words.specs.Numbers.{natural, whole, has_minus, is_digits, is_numeral}
+use Rattle.run_words.specs.Numbers.{natural, has_minus, is_digits, is_numeral}
 use Rattle.run_words.proofs.Digits.{ten_digits}
 
 -- where a choice gave something, its test was true
@@ -31,9 +31,9 @@ pub no_numeral : (text : List ℕ) (negatives : Bool) → (has_minus text && neg
 no_numeral text negatives plain none = rw plain (no_ten_digits text none)
 
 -- a choice gives something where its test is true
-pub is_some-choice : {A : Type 0} (test : Bool) (x : A) → is_some (if test then Some x else None) ≡ test
-is_some-choice true x = refl
-is_some-choice false x = refl
+pub is_some-choice : {A : Type 0} (r : Option A) (test : Bool) (x : A) → r ≡ (if test then Some x else None) → is_some r ≡ test
+is_some-choice r true x is = ap is_some is
+is_some-choice r false x is = ap is_some is
 
 -- a numeral is a number where its value is in the range
 pub ranged : (test : Bool) (n value low high : ℤ) → test ≡ true → n ≡ value

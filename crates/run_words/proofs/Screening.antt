@@ -1,14 +1,13 @@
 -- The screening of words, by the table of options.
-use Rattle.std.proofs.Common.{◌≡◌, ℕ, ◌+◌, Bool, true, false, List, ◌||◌, ◌&&◌, length, drop, ap, ◌∙◌, sym, refl, map, cond, Global}
+use Rattle.std.proofs.Common.{◌≡◌, ◌+◌, Bool, true, false, List, ◌&&◌, length, drop, ap, ◌∙◌, sym, refl, map, cond, Global}
 use Rattle.std.specs.Prelude.{[], ◌∷◌, Option, Some, None, is_some, option_map, find, not, string_bytes, String}
 use Rattle.std.specs.List.{list_any, list_all}
 use Rattle.std.specs.Option.{MatchOption}
 use Rattle.std.specs.Borrow.{Bor}
 use Rattle.run_words.specs.Commands.{Text}
 use Rattle.run_words.specs.Options.{OptionRowValue, options, row_value}
-use Rattle.run_words.specs.Screens.{is_file, gives, value_of, takes, is_known, stands_once, is_there, files_suit, suits, is_fit, first_unfit}
+use Rattle.run_words.specs.Screens.{is_file, gives, value_of, takes, is_known, stands_once, is_there, is_fit, first_unfit}
 use Rattle.run_words.specs.declared.command.CommandName.{CommandName}
-use Rattle.run_words.specs.declared.option.OptionName.{OptionName}
 use Rattle.run_words.specs.declared.option.OptionRow.{OptionRow}
 use Rattle.run_words.proofs.Mapped.{list_any-map, list_all-map, find-map}
 

@@ -5,4 +5,3 @@ pub mod Numbers
 pub mod Options
 pub mod Screens
 pub mod Values
-pub mod Ranges

@@ -1,5 +1,5 @@
 -- The options: one row each, in the order in which their values are tested.
-use Rattle.std.specs.Prelude.{ℕ, ℤ, pos, ◌-ℤ◌, ◌-◌, ◌^◌, List, [], ◌∷◌, Bool, true, false, codes}
+use Rattle.std.specs.Prelude.{ℕ, pos, ◌-ℤ◌, ◌-◌, ◌^◌, List, [], ◌∷◌, Bool, true, false, codes}
 use Rattle.run_words.specs.Commands.{Text}
 use Rattle.run_words.specs.declared.command.CommandName.{CommandName}
 use Rattle.run_words.specs.declared.command.CommandName.TheVariants.{Nodes, Bounds, Image, Replay, Demo, Live}

@@ -1,5 +1,5 @@
 -- Which words are files and options, and which of them a command takes.
-use Rattle.std.specs.Prelude.{ℕ, ◌+◌, List, [], ◌∷◌, ◌++◌, Bool, true, false, ◌&&◌, ◌||◌, not, ◌==◌, nat_eq, nat_lt, nat_le, Option, is_some, option_map, length, drop, slice_index, find, position, filter, count_by, codes}
+use Rattle.std.specs.Prelude.{◌+◌, List, ◌++◌, Bool, true, false, ◌&&◌, ◌||◌, not, ◌==◌, nat_eq, nat_lt, nat_le, Option, is_some, option_map, length, drop, slice_index, find, position, filter, count_by, codes}
 use Rattle.std.specs.List.{list_any, list_all, starts_with}
 use Rattle.std.specs.Option.{option_map_or}
 use Rattle.std.specs.Char.{is_ascii_lowercase}
@@ -8,6 +8,7 @@ use Rattle.run_words.specs.Forms.{fits}
 use Rattle.run_words.specs.Options.{OptionRowValue, options}
 use Rattle.run_words.specs.declared.command.CommandName.{CommandName}
 use Rattle.run_words.specs.declared.command.CommandName.TheVariants.{Demo, Live}
+use Rattle.run_words.specs.declared.form.Form.{Form}
 use Rattle.run_words.specs.declared.option.OptionName.{OptionName}
 
 -- a file is named by a word that is not empty and does not begin with `-`
@@ -71,9 +72,13 @@ suits command words =
     list_all (λ word. is_known command word) words && list_all (stands_once words) options && list_all (is_there command words) options
     && files_suit command (list_any (λ word. is_file word) words) (is_some (value_of (codes "generate") words))
 
+-- whether the value of the option of this name is of a form, if the option is there
+abbrev pub has_form : Form → Text → List Text → Bool
+has_form form name words = option_map_or (λ text. fits form text) (value_of name words) true
+
 -- whether an option's value is of its form, if the option is there
 abbrev pub is_fit : List Text → OptionRowValue → Bool
-is_fit words row = option_map_or (λ text. fits row.form text) (value_of row.word words) true
+is_fit words row = has_form row.form row.word words
 
 -- the first option whose value is not of its form
 abbrev pub first_unfit : List Text → Option OptionName

@@ -1,5 +1,5 @@
 -- What the values of options stand for, and the job that they make.
-use Rattle.std.specs.Prelude.{ℕ, ℤ, pos, List, [], ◌∷◌, Bool, false, Option, option_map, map, codes}
+use Rattle.std.specs.Prelude.{ℕ, ◌≤◌, IfSome, ℤ, pos, List, [], ◌∷◌, Bool, false, Option, option_map, map, codes}
 use Rattle.std.specs.Option.{option_map_or}
 use Rattle.std.specs.Str.{bytes_eq}
 use Rattle.cube_math.specs.Cubes.{CubeValue}
@@ -85,3 +85,27 @@ job_of command words = record {
   seed = number_or 1 (codes "seed") words;
   count = number_or 400000 (codes "count") words;
 }
+
+-- from low to high
+abbrev pub IsBetween : ℕ → ℕ → ℕ → Type 0
+IsBetween low high n = (low ≤ n) × (n ≤ high)
+
+-- the ranges of a job's numbers
+pub record HasRanges (j : JobValue) : Type 0 where
+  pub leaf : IsBetween 1 50000 j.leaf
+  pub nodes : IsBetween 1 200000 j.nodes
+  pub points : IsBetween 1 10000000 j.points
+  pub chunks : IfSome j.chunks (λ n. IsBetween 1 1000000 n)
+  pub batch : IsBetween 1 50000 j.batch
+  pub decimals : IsBetween 0 9 j.decimals
+  pub focal : IsBetween 1 65536 j.focal
+  pub near : IsBetween 1 1000000000 j.near
+  pub width : IsBetween 1 4096 j.size.0
+  pub height : IsBetween 1 4096 j.size.1
+  pub threshold : IsBetween 1 65536 j.threshold
+  pub dot : IsBetween 1 64 j.dot
+  pub loaders : IsBetween 1 16 j.loaders
+  pub viewers : IsBetween 1 16 j.viewers
+  pub frames : IsBetween 1 100 j.frames
+  pub generate : IfSome j.generate (λ g. IsBetween 1 10000000 g.1)
+  pub count : IsBetween 1 10000000 j.count

@@ -1,4 +1,4 @@
-ghost use Rattle.std.specs.Prelude.{◌≡◌, ◌^◌, ◌&&◌, ◌-◌, IsTrue, Some, None, if◌then◌else◌, nat_lt, option_map, drop, pos, int_le, length, IfSome, ◌≤ℤ◌};
+ghost use Rattle.std.specs.Prelude.{◌≡◌, ◌^◌, ◌&&◌, ◌-◌, IsTrue, Some, None, if◌then◌else◌, nat_lt, option_map, drop, pos, int_le, length};
 ghost use Rattle.std.specs.Str.{all_ascii_digits};
 ghost use Rattle.run_words.specs.Numbers.{natural, has_minus, is_digits, is_numeral, is_number, is_seed, whole, pieces, piece};
 
@@ -43,16 +43,14 @@ fn numeral(text: &str, negatives: bool) -> Option<i128>
 /// The whole number of a text: one to ten digits, after a `-` only where `low` is negative, from `low` to
 /// `high`.
 pub(crate) fn whole(text: &str, low: i32, high: i32) -> Option<i32>
-    ensures value { result ≡ (if is_number low high text.now then Some (whole text.now) else None) }
-    ensures within { IfSome result (λ number. (low ≤ℤ number) × (number ≤ℤ high)) }
+    ensures { result ≡ (if is_number low high text.now then Some (whole text.now) else None) }
 {
     in_range(numeral(text, low < 0)?, low, high)
 }
 
 /// A number, if it is from `low` to `high`.
 fn in_range(number: i128, low: i32, high: i32) -> Option<i32>
-    ensures value { result ≡ (if int_le low number && int_le number high then Some number else None) }
-    ensures within { IfSome result (λ number. (low ≤ℤ number) × (number ≤ℤ high)) }
+    ensures { result ≡ (if int_le low number && int_le number high then Some number else None) }
 {
     if i128::from(low) <= number && number <= i128::from(high) {
         Some(number as i32)

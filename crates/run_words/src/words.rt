@@ -1,5 +1,7 @@
-ghost use Rattle.std.specs.Prelude.{IfOk};
-ghost use Rattle.run_words.specs.Ranges.{IsInRange};
+ghost use Rattle.std.specs.Prelude.{◌≡◌, ◌≤◌, ◌+◌, ◌*◌, ◌⊎◌, IfOk, IfErr, None, Some, Ok, Err, map, string_bytes};
+ghost use Rattle.run_words.specs.Jobs.{job, refusal, pixels, shows_frames};
+ghost use Rattle.run_words.specs.Values.{HasRanges, job_of};
+ghost use Rattle.run_words.specs.declared.words.WordsFault.TheVariants.{Memory};
 
 use crate::command::CommandName;
 use crate::job::Job;
@@ -26,6 +28,8 @@ pub enum WordsFault {
 }
 
 impl From<AllocError> for WordsFault {
+    ghost from_gives = { λ _ e. e ≡ Memory };
+
     fn from(_error: AllocError) -> WordsFault {
         WordsFault::Memory
     }
@@ -33,7 +37,9 @@ impl From<AllocError> for WordsFault {
 
 /// The job that the words after the program's name stand for, or the first refusal that applies.
 pub fn read_words(alloc: Global, words: &[String]) -> Result<Job, WordsFault>
-    ensures ranges { IfOk result (λ job. IsInRange job) }
+    ensures accepted { IfOk result (λ j. job (map string_bytes words.now) ≡ Ok j) }
+    ensures refused { IfErr result (λ e. (e ≡ Memory) ⊎ (job (map string_bytes words.now) ≡ Err e)) }
+    ensures ranges { IfOk result (λ j. HasRanges j) }
 {
     let Some((first, rest)) = words.split_first() else {
         return Err(WordsFault::Command);
@@ -41,16 +47,25 @@ pub fn read_words(alloc: Global, words: &[String]) -> Result<Job, WordsFault>
     let Some(command) = CommandName::of_word(first) else {
         return Err(WordsFault::Command);
     };
-    if let Some(at) = first_stray(rest) {
+    read_rest(alloc, command, rest)
+}
+
+/// The job of a command and the words after it, or the first refusal that applies.
+fn read_rest(alloc: Global, command: CommandName, words: &[String]) -> Result<Job, WordsFault>
+    ensures accepted { IfOk result (λ j. (refusal command (map string_bytes words.now) ≡ None) × (j ≡ job_of command (map string_bytes words.now))) }
+    ensures refused { IfErr result (λ e. (e ≡ Memory) ⊎ (refusal command (map string_bytes words.now) ≡ Some e)) }
+    ensures ranges { IfOk result (λ j. HasRanges j) }
+{
+    if let Some(at) = first_stray(words) {
         return Err(WordsFault::Word { at: at as u64 + 2 });
     }
-    if !suits(command, rest) {
+    if !suits(command, words) {
         return Err(WordsFault::Options);
     }
-    if let Some(name) = first_unfit(rest) {
+    if let Some(name) = first_unfit(words) {
         return Err(WordsFault::Value { name });
     }
-    let job = job_of(alloc, command, rest)?;
+    let job = job_of(alloc, command, words)?;
     let n = pixels(&job);
     if shows_frames(command) && n > 50_000_000 {
         return Err(WordsFault::Pixels { n });
@@ -60,15 +75,32 @@ pub fn read_words(alloc: Global, words: &[String]) -> Result<Job, WordsFault>
 
 /// The pixels of all frames of the viewers and of the last frame.
 fn pixels(job: &Job) -> u64
-    requires { IsInRange job.now }
+    requires { HasRanges job.now }
+    ensures { result ≡ pixels job.now }
 {
-    let frames = u64::from(job.viewers) * u64::from(job.frames) + 1;
-    frames * u64::from(job.size.0) * u64::from(job.size.1)
+    pixels_of(job.viewers, job.frames, job.size)
+}
+
+/// The pixels of so many frames of each viewer and of one more.
+fn pixels_of(viewers: u32, frames: u32, size: (u32, u32)) -> u64
+    requires viewers { viewers ≤ 16 }
+    requires frames { frames ≤ 100 }
+    requires width { size.0 ≤ 4096 }
+    requires height { size.1 ≤ 4096 }
+    ensures { result ≡ (viewers * frames + 1) * size.0 * size.1 }
+{
+    let shown = u64::from(viewers) * u64::from(frames) + 1;
+    shown * u64::from(size.0) * u64::from(size.1)
 }
 
 /// Whether a command shows frames while it loads.
-fn shows_frames(command: CommandName) -> bool {
-    matches!(command, CommandName::Replay | CommandName::Live)
+fn shows_frames(command: CommandName) -> bool
+    ensures { result ≡ shows_frames command }
+{
+    match command {
+        CommandName::Replay | CommandName::Live => true,
+        _ => false,
+    }
 }
 
 #[cfg(test)]

@@ -40,8 +40,8 @@ CountsAccountFor outs outs' faults faults' missing missing' ended.NoFile = Rose 
 CountsAccountFor outs outs' faults faults' missing missing' ended.ReadFault = Rose faults faults'
 CountsAccountFor outs outs' faults faults' missing missing' status = ⊤
 
--- what a run did to its output: it wrote a whole text, or a first part of one where the output failed; with any other status it wrote nothing
-abbrev pub WritesOnce : Option (List ℕ) → Option (List ℕ) → Status → Type 0
-WritesOnce old new ended.Ok = (text : List ℕ) × Appends old new text
-WritesOnce old new ended.OutputFault = (text : List ℕ) × AppendsPrefix old new text
-WritesOnce old new status = new ≡ old
+-- what a run did to its output: it wrote its whole text, or a first part of it where the output failed; with any other status it wrote nothing
+abbrev pub Writes : (List ℕ → Type 0) → Option (List ℕ) → Option (List ℕ) → Status → Type 0
+Writes IsText old new ended.Ok = (text : List ℕ) × IsText text × Appends old new text
+Writes IsText old new ended.OutputFault = (text : List ℕ) × IsText text × AppendsPrefix old new text
+Writes IsText old new status = new ≡ old

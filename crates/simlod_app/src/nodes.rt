@@ -1,8 +1,11 @@
-ghost use Rattle.std.specs.Prelude.{◌≡◌, ◌<◌, ◌≤◌, ◌^◌, All, IsTrue, IfOk, IfErr, length, map, sum, vec_items};
+ghost use Rattle.std.specs.Prelude.{◌≡◌, ◌<◌, ◌≤◌, ◌^◌, All, IsTrue, IfOk, IfErr, List, Some, length, map, sum, vec_items};
+ghost use Rattle.cloud_io.specs.Files.{Folder};
+ghost use Rattle.cube_math.specs.Points.{PointValue};
 ghost use Rattle.cube_math.specs.Cubes.{contains};
 ghost use Rattle.run_report.specs.Faults.{HasAxis};
-ghost use Rattle.run_words.specs.Ranges.{IsInRange};
+ghost use Rattle.run_words.specs.Values.{HasRanges};
 ghost use Rattle.simlod_app.specs.Causes.{IsFaultOfInputs, IsOwnFault};
+ghost use Rattle.simlod_app.specs.Runs.{AreClouds, IsCubeOf, IsListing};
 
 use crate::scan::{join, read_clouds};
 use cloud_io::Inputs;
@@ -14,10 +17,12 @@ use std::alloc::{AllocError, Global};
 
 /// The listing of the octree of all points of a job's files.
 pub fn listing<I: Inputs>(alloc: Global, inputs: &mut I, job: &Job) -> Result<Vec<u8>, Fault>
-    requires { IsInRange job.now }
+    requires { HasRanges job.now }
     ensures files { I.files inputs.new ≡ I.files inputs.old }
     ensures counts { IsFaultOfInputs (I.faults inputs.old) (I.faults inputs.new) (I.missing inputs.old) (I.missing inputs.new) result }
     ensures axis { IfErr result HasAxis }
+    ensures listing { IfOk result (λ text. (clouds : List (List PointValue)) × IsListing job.now clouds text.items
+        × ((folder : Folder) → I.files inputs.old ≡ Some folder → AreClouds folder job.now.decimals job.now.files clouds)) }
 {
     let clouds = read_clouds(alloc, inputs, job.files.as_slice(), job.decimals)?;
     clouds_listing(alloc, clouds, job)
@@ -25,9 +30,10 @@ pub fn listing<I: Inputs>(alloc: Global, inputs: &mut I, job: &Job) -> Result<Ve
 
 /// The listing of the octree of all points of the clouds.
 fn clouds_listing(alloc: Global, clouds: Vec<Vec<Point>>, job: &Job) -> Result<Vec<u8>, Fault>
-    requires { IsInRange job.now }
+    requires { HasRanges job.now }
     ensures fault { IfErr result IsOwnFault }
     ensures axis { IfErr result HasAxis }
+    ensures listing { IfOk result (λ text. IsListing job.now (map vec_items clouds.items) text.items) }
 {
     let lengths = lengths_of(alloc, clouds.as_slice())?;
     let points = join(alloc, clouds)?;
@@ -63,6 +69,7 @@ fn cube_of(
     requires lengths { sum lengths.now ≡ length points.now }
     requires batch { 1 ≤ batch }
     ensures contained { IfOk result (λ cube. All (λ p. IsTrue (contains cube p)) points.now) }
+    ensures chosen { IfOk result (λ cube. IsCubeOf given points.now cube) }
     ensures fault { IfErr result IsOwnFault }
     ensures axis { IfErr result HasAxis }
 {

@@ -1,6 +1,7 @@
-ghost use Rattle.std.specs.Prelude.{◌≡◌, IfOk, IfErr};
+ghost use Rattle.std.specs.Prelude.{◌≡◌, IfOk, IfErr, map, string_bytes};
 ghost use Rattle.run_report.specs.Faults.{HasAxis};
-ghost use Rattle.simlod_app.specs.Causes.{CountsAccountFor, IsFaultOfInputs, WritesOnce, IsStatusOf};
+ghost use Rattle.simlod_app.specs.Causes.{CountsAccountFor, IsFaultOfInputs, IsStatusOf, Writes};
+ghost use Rattle.simlod_app.specs.Runs.{IsOutputOf};
 
 use crate::nodes::listing;
 use crate::status::{Status, status_of};
@@ -21,7 +22,7 @@ pub fn simlod_plain<I: Inputs, K: Sink, E: Sink>(
 ) -> Status
     ensures files { I.files inputs.new ≡ I.files inputs.old }
     ensures causes { CountsAccountFor (K.faults out.old) (K.faults out.new) (I.faults inputs.old) (I.faults inputs.new) (I.missing inputs.old) (I.missing inputs.new) result }
-    ensures output { WritesOnce (K.contents out.old) (K.contents out.new) result }
+    ensures output { Writes (IsOutputOf (I.files inputs.old) (map string_bytes words.now)) (K.contents out.old) (K.contents out.new) result }
 {
     match output_of(alloc, words, inputs) {
         Err(fault) => refuse(alloc, &fault, errors),
@@ -36,14 +37,11 @@ pub fn simlod_plain<I: Inputs, K: Sink, E: Sink>(
 }
 
 /// The whole output, or why there is none.
-fn output_of<I: Inputs>(
-    alloc: Global,
-    words: &[String],
-    inputs: &mut I,
-) -> Result<Vec<u8>, Fault>
+fn output_of<I: Inputs>(alloc: Global, words: &[String], inputs: &mut I) -> Result<Vec<u8>, Fault>
     ensures files { I.files inputs.new ≡ I.files inputs.old }
     ensures counts { IsFaultOfInputs (I.faults inputs.old) (I.faults inputs.new) (I.missing inputs.old) (I.missing inputs.new) result }
     ensures axis { IfErr result HasAxis }
+    ensures output { IfOk result (λ text. IsOutputOf (I.files inputs.old) (map string_bytes words.now) text.items) }
 {
     let job = read_job(alloc, words)?;
     listing(alloc, inputs, &job)

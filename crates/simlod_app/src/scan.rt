@@ -1,7 +1,9 @@
-ghost use Rattle.std.specs.Prelude.{◌≡◌, ◌≤◌, IfOk, IfErr, map, vec_items};
+ghost use Rattle.std.specs.Prelude.{◌≡◌, ◌≤◌, IfOk, IfErr, Some, map, string_bytes, vec_items};
+ghost use Rattle.cloud_io.specs.Files.{Folder};
 ghost use Rattle.octree_model.specs.Bags.{joined};
 ghost use Rattle.run_report.specs.Faults.{HasAxis};
 ghost use Rattle.simlod_app.specs.Causes.{IsFaultOfInputs};
+ghost use Rattle.simlod_app.specs.Runs.{AreClouds, cloud_of};
 
 use crate::faults;
 use cloud_io::{Inputs, read_all};
@@ -24,6 +26,7 @@ pub fn read_clouds<I: Inputs>(
     ensures files { I.files inputs.new ≡ I.files inputs.old }
     ensures counts { IsFaultOfInputs (I.faults inputs.old) (I.faults inputs.new) (I.missing inputs.old) (I.missing inputs.new) result }
     ensures axis { IfErr result HasAxis }
+    ensures clouds { IfOk result (λ clouds. (folder : Folder) → I.files inputs.old ≡ Some folder → AreClouds folder decimals (map string_bytes files.now) (map vec_items clouds.items)) }
 {
     let mut clouds = Vec::new(alloc);
     for name in files {
@@ -46,6 +49,7 @@ fn read_cloud<I: Inputs>(
     ensures files { I.files inputs.new ≡ I.files inputs.old }
     ensures counts { IsFaultOfInputs (I.faults inputs.old) (I.faults inputs.new) (I.missing inputs.old) (I.missing inputs.new) result }
     ensures axis { IfErr result HasAxis }
+    ensures cloud { IfOk result (λ cloud. (folder : Folder) → I.files inputs.old ≡ Some folder → cloud_of folder decimals name.now ≡ Some cloud.items) }
 {
     let bytes = match read_all(alloc, inputs, name, MOST_BYTES) {
         Ok(bytes) => bytes,

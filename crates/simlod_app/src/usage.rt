@@ -1,6 +1,8 @@
-ghost use Rattle.std.specs.Prelude.{◌<◌, IfOk, IfErr, IfSome, length};
+ghost use Rattle.std.specs.Prelude.{◌≡◌, ◌<◌, IfOk, IfErr, IfSome, Ok, length, map, string_bytes};
 ghost use Rattle.run_report.specs.Faults.{HasAxis};
-ghost use Rattle.run_words.specs.Ranges.{IsInRange};
+ghost use Rattle.run_words.specs.Jobs.{job};
+ghost use Rattle.run_words.specs.Values.{HasRanges};
+ghost use Rattle.run_words.specs.declared.command.CommandName.TheVariants.{Nodes};
 ghost use Rattle.simlod_app.specs.Causes.{IsOwnFault};
 
 use crate::faults;
@@ -11,7 +13,9 @@ use std::alloc::Global;
 /// The job of the words, if it is one that is run here: a listing of text files, without the limits on
 /// nodes and points.
 pub fn read_job(alloc: Global, words: &[String]) -> Result<Job, Fault>
-    ensures ranges { IfOk result (λ job. IsInRange job) }
+    ensures accepted { IfOk result (λ j. job (map string_bytes words.now) ≡ Ok j) }
+    ensures command { IfOk result (λ j. j.command ≡ Nodes) }
+    ensures ranges { IfOk result (λ j. HasRanges j) }
     ensures fault { IfErr result IsOwnFault }
     ensures axis { IfErr result HasAxis }
 {
@@ -19,8 +23,9 @@ pub fn read_job(alloc: Global, words: &[String]) -> Result<Job, Fault>
         Ok(job) => job,
         Err(fault) => return Err(faults::of_words(alloc, fault)),
     };
-    if job.command != CommandName::Nodes {
-        return Err(Fault::Command);
+    match job.command {
+        CommandName::Nodes => {}
+        _ => return Err(Fault::Command),
     }
     if let Some(place) = las_word(words) {
         return Err(Fault::Word {

@@ -44,6 +44,7 @@ fn refusals_in_their_order(rt: HostRuntime) -> Result<(), Fail> {
         ("nodes a --=1", WordsFault::Word { at: 3 }),
         ("nodes --help a", WordsFault::Word { at: 2 }),
         ("nodes --Leaf=1 a", WordsFault::Word { at: 2 }),
+        ("nodes a --le-af=1", WordsFault::Word { at: 3 }),
         ("nodes a  b", WordsFault::Word { at: 3 }),
         ("nodes", WordsFault::Options),
         ("nodes --leaf=0", WordsFault::Options),
@@ -79,7 +80,7 @@ fn values_at_their_edges(rt: HostRuntime) -> Result<(), Fail> {
         "nodes --leaf=1 --nodes=0000000001 --points=1 --batch=1 --decimals=0 a",
         "replay --chunks=1 --schedule=s a",
         "replay --chunks=1000000 --schedule=s=- a",
-        "bounds --decimals=9 --rgb=low --voxels-a=1",
+        "bounds --decimals=9 --rgb=low a=b",
         "nodes --rgb=high --voxels=no a",
         "image --pos=-2147483648,2147483647,-0 a",
         "image --rows=-1024,1024,0,0,0,0,0,0,-0 --focal=1 --near=1 a",
@@ -94,11 +95,7 @@ fn values_at_their_edges(rt: HostRuntime) -> Result<(), Fail> {
     ];
     for line in accepted {
         let fault = read(alloc, line)?.err();
-        if line == "bounds --decimals=9 --rgb=low --voxels-a=1" {
-            assert_eq!(rt; fault, Some(WordsFault::Word { at: 4 }), "at {line}");
-        } else {
-            assert_eq!(rt; fault, None, "at {line}");
-        }
+        assert_eq!(rt; fault, None, "at {line}");
     }
     Ok(())
 }

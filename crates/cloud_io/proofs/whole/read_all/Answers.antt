@@ -105,8 +105,8 @@ returns-then-len-n-clause-place g c =
         record {
           file = c.in_ok-file.file;
           stands = stands_more _ _ _ _ _ c.in_ok-n.n _ kept.stands c.in_ok-n.ensures.moves
-            (omega (arith, c.len.ensures, c.loop-bytes.bytes.ok.0))
-            (omega (arith, c.len.ensures, c.loop-bytes.bytes.ok.1, c.loop-bytes.bytes.small, kept.small, c.in_ok-n.ensures.bound.0));
+              (omega (arith, c.len.ensures, c.loop-bytes.bytes.ok.0))
+              (omega (arith, c.len.ensures, c.loop-bytes.bytes.ok.1, c.loop-bytes.bytes.small, kept.small, c.in_ok-n.ensures.bound.0));
           others = others_more _ _ _ _ kept.others c.in_ok-n.ensures.moves.1;
         },
       ),
@@ -131,7 +131,7 @@ loop-bytes-preserved g c =
       stands = stands_more _ _ _ _ _ c.in_ok-n.n _ kept.stands c.in_ok-n.ensures.moves sum (omega (arith, new.ok.0, new.ok.1, new.small));
       others = others_more _ _ _ _ kept.others c.in_ok-n.ensures.moves.1;
       begun = begun_more (g.I.Inputs.files c.args.inputs.now) (g.I.Inputs.files c.loop-bytes.inputs) (g.I.Inputs.opened c.loop-bytes.inputs) c.in_ok-file.file c.args.name.now c.loop-bytes.bytes.items
-        c.read.new.buf new.items c.in_ok-n.n kept.files kept.begun kept.stands c.in_ok-n.ensures.bound.0 c.in_ok-n.ensures.gives c.in_ok-extend_from_slice.ensures.items;
+          c.read.new.buf new.items c.in_ok-n.n kept.files kept.begun kept.stands c.in_ok-n.ensures.bound.0 c.in_ok-n.ensures.gives c.in_ok-extend_from_slice.ensures.items;
       faults_later = omega (arith, kept.faults_later, c.in_ok-n.ensures.cause.later);
       missing_later = omega (arith, kept.missing_later, c.in_ok-n.ensures.missing);
     }

@@ -1,5 +1,4 @@
-use Rattle.std.proofs.Common.{◌≡◌, ◌∙◌, ap, w32, to_z, of_z, rules}
-use Rattle.std.specs.Prelude.{is_some}
+use Rattle.std.proofs.Common.{◌≡◌, ◌∙◌, w32, to_z, of_z, rules}
 use Rattle.run_words.specs.Numbers.{is_number, whole}
 use Rattle.run_words.proofs.Numerals.{is_some-choice}
 use Rattle.run_words.proofs.number.is_whole.Goals as goal
@@ -8,4 +7,5 @@ pub returns : goal.returns
 returns c =
     let low : to_z w32 (of_z w32 c.args.low) ≡ c.args.low = search rules in
     let high : to_z w32 (of_z w32 c.args.high) ≡ c.args.high = search rules in
-    c.is_some.ensures ∙ ap is_some (rw (low, high) at c.whole.ensures.value) ∙ is_some-choice (is_number c.args.low c.args.high c.args.text.now) (whole c.args.text.now)
+    let read = rw (low, high) at c.whole.ensures in
+    c.is_some.ensures ∙ is_some-choice c.whole.result (is_number c.args.low c.args.high c.args.text.now) (whole c.args.text.now) read

@@ -1,4 +1,4 @@
-use Rattle.std.proofs.Common.{lit<, ◌∙◌}
+use Rattle.std.proofs.Common.{lit<}
 use Rattle.std.proofs.lemmas.Iterator.Consumers.{nth_from_yields_List}
 use Rattle.std.proofs.lemmas.Iterator.Splits.{YieldsList-from_str_split}
 use Rattle.run_words.proofs.Pieces.{unwrapped}

@@ -1,4 +1,4 @@
-use Rattle.std.proofs.Common.{lit<, ◌∙◌}
+use Rattle.std.proofs.Common.{lit<}
 use Rattle.std.proofs.lemmas.Str.Pattern.{strip_prefix_char}
 use Rattle.run_words.proofs.Minus.{behind_minus, and_true}
 use Rattle.run_words.proofs.number.without_minus.Goals as goal

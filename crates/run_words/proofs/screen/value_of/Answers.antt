@@ -1,5 +1,3 @@
-use Rattle.std.proofs.Common.{◌∙◌, ap}
-use Rattle.std.specs.Prelude.{option_map}
 use Rattle.run_words.proofs.Screening.{found_value, no_value}
 use Rattle.run_words.proofs.screen.value_of.Goals as goal
 

@@ -5,4 +5,4 @@ pub returns-in-Err-clause-causes : goal.returns-in-Err-clause-causes
 returns-in-Err-clause-causes g c = accounted _ _ _ _ _ c.in-Err.fault c.refuse.result c.in-Err.ensures.counts.2 c.refuse.ensures
 
 pub returns-in-Err-clause-output : goal.returns-in-Err-clause-output
-returns-in-Err-clause-output g c = nothing_written _ _ _ _ _ c.in-Err.fault c.refuse.result c.in-Err.ensures.counts.2 c.refuse.ensures
+returns-in-Err-clause-output g c = nothing_written _ _ _ _ _ _ c.in-Err.fault c.refuse.result c.in-Err.ensures.counts.2 c.refuse.ensures

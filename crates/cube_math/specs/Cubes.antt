@@ -66,6 +66,7 @@ cell_middle o bits index = o +ℤ pos (index * 2 ^ (bits - 7) + 2 ^ (bits - 8))
 abbrev pub from_middle : ℤ → ℕ → ℤ → ℕ
 from_middle o bits x = unsigned_abs (x -ℤ cell_middle o bits (cell_index o bits x))
 
+-- a number times itself
 abbrev pub square : ℕ → ℕ
 square n = n * n
 

@@ -4,19 +4,22 @@ use Rattle.std.proofs.Common.{ap, ◌∙◌, sym, arith}
 use Rattle.std.proofs.lemmas.List.{length-take-le}
 use Rattle.cube_math.specs.declared.path.Path.TheInside.{Inside}
 
--- so many octants, and zeros behind them
+-- so many octants, each below 8, and zeros behind them
 pub record IsPath (octants : List ℕ) (len : ℕ) : Type 0 where
   pub long : length octants ≡ 24
   pub few : len ≤ 24
   pub small : EachIndex octants (λ k. slice_index octants k < 8)
   pub padded : octants ≡ take len octants ++ replicate (24 - len) 0
 
+-- the octants of a path
 abbrev pub octants_of : Inside → List ℕ
 octants_of p = take p.len p.octants
 
+-- how octants are kept
 abbrev pub path_of : List ℕ → Inside
 path_of l = record { octants = l ++ replicate (24 - length l) 0; len = length l }
 
+-- a path as it is kept
 abbrev pub IsKept : Inside → Type 0
 IsKept p = IsPath p.octants p.len
 

@@ -2,7 +2,7 @@ ghost use Rattle.std.specs.Prelude.{◌≡◌, ◌<◌, ◌≤◌, ◌++◌, ◌
 
 use std::marker::Model;
 
-/// The octants from the root to a node.
+/// The octants from the root to a node: at most 24, each 0 to 7. Contracts see the list of them.
 #[derive(Clone, Copy, Debug, PartialEq, Eq, PartialOrd, Ord)]
 pub struct Path {
     octants: [u8; 24],
@@ -29,6 +29,7 @@ impl Model for Path {
 }
 
 impl Path {
+    /// The path of the root, which has no octant.
     pub fn root() -> Path
         ensures { result ≡ [] }
     {
@@ -38,6 +39,7 @@ impl Path {
         }
     }
 
+    /// How many steps it goes down, at most 24.
     pub fn len(&self) -> u32
         ensures value { result ≡ length self.now }
         ensures few { result ≤ 24 }
@@ -45,6 +47,7 @@ impl Path {
         u32::from(self.len)
     }
 
+    /// The octant of a step, counted from 0.
     pub fn octant(&self, i: u32) -> u8
         requires { i < length self.now }
         ensures value { slice_get self.now i ≡ Some result }
@@ -53,6 +56,7 @@ impl Path {
         self.octants[i as usize]
     }
 
+    /// The path one step further, into an octant.
     pub fn child(&self, octant: u8) -> Path
         requires below { octant < 8 }
         requires room { length self.now < 24 }

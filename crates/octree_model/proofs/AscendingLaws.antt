@@ -28,36 +28,36 @@ with_number_twice a b l (k ∷ ks) =
           ap (with_number a) (with_number_before b k ks before) ∙ with_number_before a b (k ∷ ks) l
           ∙ sym (ap (with_number b) (with_number_before a k ks (omega arith)) ∙ with_number_behind b a (k ∷ ks) l ∙ ap (λ xs. a ∷ xs) (with_number_before b k ks before))
       | inr not_before ↦ elim (cases_eq b k) [
-          | inl same ↦
-              ap (with_number a) (with_number_at b k ks same) ∙ with_number_before a k ks (omega arith)
-              ∙ sym (ap (with_number b) (with_number_before a k ks (omega arith)) ∙ with_number_behind b a (k ∷ ks) l ∙ ap (λ xs. a ∷ xs) (with_number_at b k ks same))
-          | inr other ↦
-              let behind : k < b = omega arith in
-              let first : with_number a (with_number b (k ∷ ks)) ≡ with_number a (k ∷ with_number b ks) = ap (with_number a) (with_number_behind b k ks behind) in
-              first ∙ elim (cases_lt a k) [
-                | inl a_before ↦
-                    with_number_before a k (with_number b ks) a_before
-                    ∙ sym (ap (with_number b) (with_number_before a k ks a_before) ∙ with_number_behind b a (k ∷ ks) l ∙ ap (λ xs. a ∷ xs) (with_number_behind b k ks behind))
-                | inr a_not_before ↦ elim (cases_eq a k) [
-                    | inl a_same ↦
-                        with_number_at a k (with_number b ks) a_same
-                        ∙ sym (ap (with_number b) (with_number_at a k ks a_same) ∙ with_number_behind b k ks behind)
-                    | inr a_other ↦
-                        let a_behind : k < a = omega arith in
-                        with_number_behind a k (with_number b ks) a_behind ∙ ap (λ xs. k ∷ xs) (with_number_twice a b l ks)
-                        ∙ sym (ap (with_number b) (with_number_behind a k ks a_behind) ∙ with_number_behind b k (with_number a ks) behind)
-                  ]
+        | inl same ↦
+            ap (with_number a) (with_number_at b k ks same) ∙ with_number_before a k ks (omega arith)
+            ∙ sym (ap (with_number b) (with_number_before a k ks (omega arith)) ∙ with_number_behind b a (k ∷ ks) l ∙ ap (λ xs. a ∷ xs) (with_number_at b k ks same))
+        | inr other ↦
+            let behind : k < b = omega arith in
+            let first : with_number a (with_number b (k ∷ ks)) ≡ with_number a (k ∷ with_number b ks) = ap (with_number a) (with_number_behind b k ks behind) in
+            first ∙ elim (cases_lt a k) [
+              | inl a_before ↦
+                  with_number_before a k (with_number b ks) a_before
+                  ∙ sym (ap (with_number b) (with_number_before a k ks a_before) ∙ with_number_behind b a (k ∷ ks) l ∙ ap (λ xs. a ∷ xs) (with_number_behind b k ks behind))
+              | inr a_not_before ↦ elim (cases_eq a k) [
+                | inl a_same ↦
+                    with_number_at a k (with_number b ks) a_same
+                    ∙ sym (ap (with_number b) (with_number_at a k ks a_same) ∙ with_number_behind b k ks behind)
+                | inr a_other ↦
+                    let a_behind : k < a = omega arith in
+                    with_number_behind a k (with_number b ks) a_behind ∙ ap (λ xs. k ∷ xs) (with_number_twice a b l ks)
+                    ∙ sym (ap (with_number b) (with_number_behind a k ks a_behind) ∙ with_number_behind b k (with_number a ks) behind)
               ]
-        ]
+            ]
+      ]
     ]
 
 pub with_number_commutes : (a b : ℕ) (ks : List ℕ) → with_number a (with_number b ks) ≡ with_number b (with_number a ks)
 with_number_commutes a b ks = elim (cases_lt a b) [
   | inl l ↦ with_number_twice a b l ks
   | inr le ↦ elim (cases_eq a b) [
-      | inl e ↦ ap (λ n. with_number n (with_number b ks)) e ∙ ap (λ n. with_number b (with_number n ks)) (sym e)
-      | inr other ↦ sym (with_number_twice b a (omega arith) ks)
-    ]
+    | inl e ↦ ap (λ n. with_number n (with_number b ks)) e ∙ ap (λ n. with_number b (with_number n ks)) (sym e)
+    | inr other ↦ sym (with_number_twice b a (omega arith) ks)
+  ]
 ]
 
 -- a list with one number more at its end
@@ -82,10 +82,10 @@ has-with_number z n (k ∷ ks) =
     elim (cases_lt n k) [
       | inl before ↦ ap (has z) (with_number_before n k ks before)
       | inr not_before ↦ elim (cases_eq n k) [
-          | inl same ↦ ap (has z) (with_number_at n k ks same) ∙ or_twice (nat_eq z k) (has z ks) ∙ ap (λ m. nat_eq z m || (nat_eq z k || has z ks)) (sym same)
-          | inr other ↦
-              ap (has z) (with_number_behind n k ks (omega arith)) ∙ ap (λ b. nat_eq z k || b) (has-with_number z n ks) ∙ or_turned (nat_eq z k) (nat_eq z n) (has z ks)
-        ]
+        | inl same ↦ ap (has z) (with_number_at n k ks same) ∙ or_twice (nat_eq z k) (has z ks) ∙ ap (λ m. nat_eq z m || (nat_eq z k || has z ks)) (sym same)
+        | inr other ↦
+            ap (has z) (with_number_behind n k ks (omega arith)) ∙ ap (λ b. nat_eq z k || b) (has-with_number z n ks) ∙ or_turned (nat_eq z k) (nat_eq z n) (has z ks)
+      ]
     ]
 
 pub has-ascending : (z : ℕ) (ns : List ℕ) → has z (ascending ns) ≡ has z ns
@@ -110,12 +110,12 @@ with_number_before_last b n l (k ∷ ks) =
     elim (cases_lt b k) [
       | inl before ↦ with_number_before b k (ks ++ n ∷ []) before ∙ ap (λ (xs : List ℕ). xs ++ n ∷ []) (sym (with_number_before b k ks before))
       | inr not_before ↦ elim (cases_eq b k) [
-          | inl same ↦ with_number_at b k (ks ++ n ∷ []) same ∙ ap (λ (xs : List ℕ). xs ++ n ∷ []) (sym (with_number_at b k ks same))
-          | inr other ↦
-              let behind : k < b = omega arith in
-              with_number_behind b k (ks ++ n ∷ []) behind ∙ ap (λ xs. k ∷ xs) (with_number_before_last b n l ks)
-              ∙ ap (λ (xs : List ℕ). xs ++ n ∷ []) (sym (with_number_behind b k ks behind))
-        ]
+        | inl same ↦ with_number_at b k (ks ++ n ∷ []) same ∙ ap (λ (xs : List ℕ). xs ++ n ∷ []) (sym (with_number_at b k ks same))
+        | inr other ↦
+            let behind : k < b = omega arith in
+            with_number_behind b k (ks ++ n ∷ []) behind ∙ ap (λ xs. k ∷ xs) (with_number_before_last b n l ks)
+            ∙ ap (λ (xs : List ℕ). xs ++ n ∷ []) (sym (with_number_behind b k ks behind))
+      ]
     ]
 
 pub filter_next : (t : ℕ → Bool) (n : ℕ) → filter t (up_to (suc n)) ≡ filter t (up_to n) ++ cond (t n) (n ∷ []) []

@@ -17,4 +17,3 @@ at_up_to f (suc n) g d l =
       | inl below ↦ rw parts (get_or_append_left _ _ d g (omega arith) ∙ at_up_to f n g d below)
       | inr above ↦ let same : g ≡ n = omega arith in rw (parts, same) (get_or_push _ (f n) d n long)
     ]
-

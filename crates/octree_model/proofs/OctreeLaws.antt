@@ -34,4 +34,3 @@ pub inner_by_count : (leaf depth : ℕ) (c : CubeValue) (ps : List PointValue) �
     → Inner record { count = length ps; voxels = voxels c ps; trees = map (λ g. octree_at leaf depth (child c g) ps) (up_to 8) } ≡ octree_at leaf (suc depth) c ps
 unfolding octree_at
 inner_by_count leaf depth c ps h l = rw (all_inside c ps h, lt-leb _ _ l) refl
-

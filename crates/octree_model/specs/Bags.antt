@@ -19,6 +19,7 @@ abbrev pub tree_points : Tree-F (List PointValue) (List PointValue) → List Poi
 tree_points (Tree-F.Leaf ps) = ps
 tree_points (Tree-F.Inner ps) = ps
 
+-- an inner node's points, from those of its trees
 abbrev pub node_points : InnerNode-F (List PointValue) (List PointValue) → List PointValue
 node_points n = joined n.trees
 

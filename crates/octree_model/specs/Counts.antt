@@ -9,6 +9,7 @@ abbrev pub tree_count : Tree-F ℕ ℕ → ℕ
 tree_count (Tree-F.Leaf ps) = 1
 tree_count (Tree-F.Inner n) = n
 
+-- an inner node and the nodes of its trees
 abbrev pub node_count : InnerNode-F ℕ ℕ → ℕ
 node_count n = 1 + sum n.trees
 

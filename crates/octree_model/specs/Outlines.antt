@@ -15,10 +15,12 @@ abbrev pub children_outline : List ℕ → CubeValue → ℕ → List OutlineAt 
 children_outline path c g [] = []
 children_outline path c g (t ∷ ts) = t (path ++ g ∷ []) (child c g) ++ children_outline path c (g + 1) ts
 
+-- a leaf by itself, or the outline of an inner node
 abbrev pub tree_outline : Tree-F OutlineAt OutlineAt → OutlineAt
 tree_outline (Tree-F.Leaf ps) path c = record { path = path; cube = c; inner = false } ∷ []
 tree_outline (Tree-F.Inner outline) path c = outline path c
 
+-- an inner node, and then the outlines of its children
 abbrev pub node_outline : InnerNode-F OutlineAt OutlineAt → OutlineAt
 node_outline n path c = record { path = path; cube = c; inner = true } ∷ children_outline path c 0 n.trees
 

@@ -21,12 +21,14 @@ impl Model for Points {
 }
 
 impl Points {
+    /// The points of a leaf, moved in.
     pub fn new(points: Vec<Point>) -> Points
         ensures { result ≡ points.items }
     {
         Points { points }
     }
 
+    /// The points, in order.
     pub fn points(&self) -> &[Point]
         ensures { result.now ≡ self.now }
     {
@@ -53,6 +55,7 @@ pub struct InnerNode {
 }
 
 impl InnerNode {
+    /// An inner node of these parts, moved in.
     pub fn new(count: u64, voxels: Vec<Voxel>, trees: Vec<Tree>) -> InnerNode
         requires { length trees.items ≡ 8 }
         ensures { result ≡ record { count = count; voxels = voxels.items; trees = trees.items } }

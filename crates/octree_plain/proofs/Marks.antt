@@ -44,9 +44,9 @@ has_step : (z n : ℕ) (b c : Bool) → (z ≡ n → b ≡ c) → ((nat_lt z n &
 has_step z n b c h = elim (cases_lt z n) [
   | inl below ↦ let other : nat_eq z n ≡ false = ne_eqb _ _ (λ e. absurd (omega arith)) in rw (lt-ltb _ _ below, lt-ltb z (suc n) (omega arith), other) (or_false b)
   | inr above ↦ elim (cases_eq z n) [
-      | inl same ↦ rw (le-ltb _ _ above, eq-eqb _ _ same, lt-ltb z (suc n) (omega arith)) (sym (h same))
-      | inr other ↦ rw (le-ltb _ _ above, ne_eqb _ _ other, le-ltb z (suc n) (omega arith)) refl
-    ]
+    | inl same ↦ rw (le-ltb _ _ above, eq-eqb _ _ same, lt-ltb z (suc n) (omega arith)) (sym (h same))
+    | inr other ↦ rw (le-ltb _ _ above, ne_eqb _ _ other, le-ltb z (suc n) (omega arith)) refl
+  ]
 ]
   where
     or_false : (x : Bool) → (x || false) ≡ x

@@ -54,6 +54,7 @@ no_keys c (q ∷ qs) z h =
   where
     absurd_bool : true ≡ false → ⊥
     absurd_bool e = cc
+
     right_false : (a b : Bool) → (a || b) ≡ false → b ≡ false
     right_false true b e = cc
     right_false false b e = e
@@ -105,14 +106,15 @@ keeps c qs p z k here near le = record {
   small = near.small;
   within = omega (arith, near.within, length_push qs p);
   least_key = λ d.
-  least_here c qs p z here ∙ ap (λ o. Some (lesser (key c p) o)) (near.least_key p)
-  ∙ ap (λ n. Some n) (lesser_old (key c p) (key c (get_or qs k p)) le)
-  ∙ ap (λ q. Some (key c q)) (inside_default qs k p d near.within)
-  ∙ ap (λ q. Some (key c q)) (sym (get_or_append_left qs (p ∷ []) d k near.within));
+      least_here c qs p z here ∙ ap (λ o. Some (lesser (key c p) o)) (near.least_key p)
+      ∙ ap (λ n. Some n) (lesser_old (key c p) (key c (get_or qs k p)) le)
+      ∙ ap (λ q. Some (key c q)) (inside_default qs k p d near.within)
+      ∙ ap (λ q. Some (key c q)) (sym (get_or_append_left qs (p ∷ []) d k near.within));
 }
   where
     lesser_old : (a b : ℕ) → b ≤ a → min a b ≡ b
     lesser_old a b l = omega arith
+
     inside_default : (qs : List PointValue) (k : ℕ) (d e : PointValue) → k < length qs → get_or qs k d ≡ get_or qs k e
     inside_default [] k d e l = absurd (omega arith)
     inside_default (q ∷ qs) zero d e l = refl

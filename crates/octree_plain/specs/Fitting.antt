@@ -5,13 +5,15 @@ use Rattle.cube_math.specs.Points.{PointValue}
 use Rattle.cube_math.specs.Cubes.{CubeValue}
 use Rattle.octree_plain.specs.declared.fitting.Span.{Span}
 
--- the coordinates of points on each axis
+-- the x coordinates of points
 abbrev pub on_x : List PointValue → List ℤ
 on_x ps = map (λ p. p.x) ps
 
+-- the y coordinates of points
 abbrev pub on_y : List PointValue → List ℤ
 on_y ps = map (λ p. p.y) ps
 
+-- the z coordinates of points
 abbrev pub on_z : List PointValue → List ℤ
 on_z ps = map (λ p. p.z) ps
 

@@ -22,15 +22,19 @@ path_text path = codes "r" ++ flat_map decimal path
 abbrev pub colour_text : ℕ → List ℕ
 colour_text rgb = replicate (6 - length (digits 16 false rgb)) 48 ++ digits 16 false rgb
 
+-- a voxel: its cell and its colour
 abbrev pub voxel_line : VoxelValue → List ℕ
 voxel_line v = codes "v " ++ decimal v.cell ++ codes " " ++ colour_text v.rgb ++ line_feed
 
+-- a leaf: its path and its number of points
 abbrev pub leaf_line : List ℕ → ℕ → List ℕ
 leaf_line path points = path_text path ++ codes " leaf " ++ decimal points ++ line_feed
 
+-- an inner node: its path, its number of points and its number of voxels
 abbrev pub inner_line : List ℕ → ℕ → ℕ → List ℕ
 inner_line path points voxels = path_text path ++ codes " inner " ++ decimal points ++ codes " " ++ decimal voxels ++ line_feed
 
+-- the cube: its origin and its bits
 abbrev pub cube_line : CubeValue → List ℕ
 cube_line c = codes "cube " ++ signed_decimal c.ox ++ codes " " ++ signed_decimal c.oy ++ codes " " ++ signed_decimal c.oz ++ codes " " ++ decimal c.bits ++ line_feed
 
@@ -43,6 +47,7 @@ abbrev pub children_lines : List ℕ → ℕ → List LinesAt → List ℕ
 children_lines path g [] = []
 children_lines path g (t ∷ ts) = t (path ++ g ∷ []) ++ children_lines path (g + 1) ts
 
+-- a leaf's line, or the lines of an inner node
 abbrev pub tree_lines : Tree-F LinesAt LinesAt → LinesAt
 tree_lines (Tree-F.Leaf ps) path = leaf_line path (length ps)
 tree_lines (Tree-F.Inner lines) path = lines path

@@ -9,12 +9,7 @@ use octree_model::{InnerNode, Points, Tree};
 use std::alloc::{AllocError, Global};
 
 /// The octree of the points, in which a node with more than `leaf` points is split down to cubes of 7 bits.
-pub fn build(
-    alloc: Global,
-    points: &[Point],
-    cube: Cube,
-    leaf: u32,
-) -> Result<Tree, AllocError>
+pub fn build(alloc: Global, points: &[Point], cube: Cube, leaf: u32) -> Result<Tree, AllocError>
     requires contained { All (λ p. IsTrue (contains cube p)) points.now }
     requires leaf { 1 ≤ leaf }
     ensures { IfOk result (λ tree. tree ≡ octree leaf cube points.now) }
@@ -68,11 +63,7 @@ fn grow(
 }
 
 /// The points of each child, in the order of the children.
-fn spread(
-    alloc: Global,
-    cube: &Cube,
-    points: &[Point],
-) -> Result<Vec<Vec<Point>>, AllocError>
+fn spread(alloc: Global, cube: &Cube, points: &[Point]) -> Result<Vec<Vec<Point>>, AllocError>
     requires contained { All (λ p. IsTrue (contains cube.now p)) points.now }
     requires splits { 7 < cube.now.bits }
     ensures { IfOk result (λ lists. map vec_items lists.items ≡ map (λ g. inside (child cube.now g) points.now) (up_to 8)) }

@@ -96,7 +96,7 @@ fn is_nearer(cube: &Cube, p: &Point, q: &Point) -> bool
     }
 }
 
-/// The voxels of the cells, each with the colour of its nearest point.
+/// The voxels of the cells, each with the colour of its nearest point. The cube is there for the contract.
 fn coloured(
     alloc: Global,
     cells: &[u32],

@@ -10,3 +10,4 @@ pub mod Lists
 pub mod Fits
 pub mod Ranges
 pub mod JobRanges
+pub mod Examples

@@ -8,7 +8,7 @@ use crate::number::{is_seed, is_whole, piece, piece_count, whole};
 use cube_math::Cube;
 
 /// The form of an option's value.
-#[derive(Clone, Copy, Debug, PartialEq, Eq)]
+#[derive(Clone, Copy)]
 pub(crate) enum Form {
     /// A whole number from `low` to `high`.
     Number { low: i32, high: i32 },
@@ -58,6 +58,7 @@ pub(crate) fn cube(text: &str) -> Option<Cube>
     Cube::new(x, y, z, bits)
 }
 
+/// A coordinate: a number of 32 bits.
 fn coordinate(text: &str) -> Option<i32>
     ensures { result ≡ (if is_coordinate text.now then Some (whole text.now) else None) }
 {

@@ -77,6 +77,7 @@ fn number_or(default: u32, name: &str, words: &[String]) -> u32
     }
 }
 
+/// The number of chunks, if it was given.
 fn chunks_of(words: &[String]) -> Option<u32>
     requires { IsTrue (has_form (Number (pos 0) (pos (2 ^ 31 - 1))) (codes "chunks") (map string_bytes words.now)) }
     ensures { result ≡ option_map natural (value_of (codes "chunks") (map string_bytes words.now)) }
@@ -87,6 +88,7 @@ fn chunks_of(words: &[String]) -> Option<u32>
     }
 }
 
+/// The cube, if it was given.
 fn cube_of(words: &[String]) -> Option<Cube>
     requires { IsTrue (has_form CubePlace (codes "cube") (map string_bytes words.now)) }
     ensures { result ≡ option_map cube_of (value_of (codes "cube") (map string_bytes words.now)) }
@@ -107,6 +109,7 @@ fn is_chosen(choice: &str, name: &str, words: &[String]) -> bool
     }
 }
 
+/// Where the camera stands.
 fn pos_of(words: &[String]) -> [i32; 3]
     requires { IsTrue (has_form (Numbers 3 (pos 0 -ℤ pos (2 ^ 31)) (pos (2 ^ 31 - 1))) (codes "pos") (map string_bytes words.now)) }
     ensures { result ≡ numbers_or (pos 0 ∷ pos 0 ∷ pos 0 ∷ []) (codes "pos") (map string_bytes words.now) }
@@ -125,6 +128,7 @@ fn three(text: &str) -> [i32; 3]
     [whole_at(text, 0), whole_at(text, 1), whole_at(text, 2)]
 }
 
+/// The camera's three directions.
 fn rows_of(words: &[String]) -> [i32; 9]
     requires { IsTrue (has_form (Numbers 9 (pos 0 -ℤ pos 1024) (pos 1024)) (codes "rows") (map string_bytes words.now)) }
     ensures { result ≡ numbers_or (pos 1024 ∷ pos 0 ∷ pos 0 ∷ pos 0 ∷ pos 1024 ∷ pos 0 ∷ pos 0 ∷ pos 0 ∷ pos 1024 ∷ []) (codes "rows") (map string_bytes words.now) }
@@ -153,6 +157,7 @@ fn nine(text: &str) -> [i32; 9]
     ]
 }
 
+/// The width and height of a frame.
 fn size_of(words: &[String]) -> (u32, u32)
     requires { IsTrue (has_form (Numbers 2 (pos 1) (pos 4096)) (codes "size") (map string_bytes words.now)) }
     ensures { result ≡ option_map_or pair_of (value_of (codes "size") (map string_bytes words.now)) (256, 256) }
@@ -163,6 +168,7 @@ fn size_of(words: &[String]) -> (u32, u32)
     }
 }
 
+/// The schedule's file, if it was given.
 fn schedule_of(alloc: Global, words: &[String]) -> Result<Option<String>, AllocError>
     ensures { IfOk result (λ name. option_map string_bytes name ≡ value_of (codes "schedule") (map string_bytes words.now)) }
 {
@@ -172,6 +178,7 @@ fn schedule_of(alloc: Global, words: &[String]) -> Result<Option<String>, AllocE
     }
 }
 
+/// The seed and the number of points to generate, if they were given.
 fn generate_of(words: &[String]) -> Option<(u64, u32)>
     requires { IsTrue (has_form (SeedAndCount (pos 10000000)) (codes "generate") (map string_bytes words.now)) }
     ensures { result ≡ option_map pair_of (value_of (codes "generate") (map string_bytes words.now)) }
@@ -190,6 +197,7 @@ fn seed_and_count(text: &str) -> (u64, u32)
     (seed(piece(text, 0)).unwrap(), natural(piece(text, 1)))
 }
 
+/// The seed of a demonstration.
 fn seed_of(words: &[String]) -> u64
     requires { IsTrue (has_form Seed (codes "seed") (map string_bytes words.now)) }
     ensures { result ≡ number_or 1 (codes "seed") (map string_bytes words.now) }

@@ -1,16 +1,8 @@
+use super::tests::words_of;
 use super::*;
 use cube_math::Cube;
 use std::process::Abort;
 use std::test::Fail;
-
-/// The words of a line, parted by single spaces.
-fn words_of(alloc: Global, line: &str) -> Result<Vec<String>, AllocError> {
-    let mut words = Vec::new(alloc);
-    for word in line.split(' ') {
-        words.push(String::from_str(alloc, word)?)?;
-    }
-    Ok(words)
-}
 
 fn read(rt: &impl Abort, alloc: Global, line: &str) -> Result<Job, AllocError> {
     let words = words_of(alloc, line)?;

@@ -53,6 +53,6 @@ returns t c =
     let b : c.cube.inside.bits ≡ c.args.cube.bits = ap (λ (x : CubeValue). x.bits) c.cube.view_is in
     record {
       tree = ap Inner c.new-2.ensures ∙ grown_node c.args.leaf c.args.cube c.args.points.items _ c.loop-list.g _ _ c.requires.contained (omega arith) (omega arith)
-    (omega arith) (search rules) end c.loop-list.invariant.grown;
+          (omega arith) (search rules) end c.loop-list.invariant.grown;
       between_nodes = c.loop-list.invariant.between;
     }

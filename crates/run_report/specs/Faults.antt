@@ -1,5 +1,5 @@
 -- The faults of a run as text.
-use Rattle.std.specs.Prelude.{ℕ, List, [], ◌∷◌, ◌+◌, ◌<◌, codes, decimal, string_bytes}
+use Rattle.std.specs.Prelude.{ℕ, List, [], ◌∷◌, ◌+◌, ◌<◌, codes, decimal}
 use Rattle.run_report.specs.Texts.{joined}
 use Rattle.run_report.specs.RefusedRows.{refused_rest}
 use Rattle.run_report.specs.declared.fault.Fault.{Fault}
@@ -15,24 +15,24 @@ fault_text Output = codes "output fault"
 fault_text Command = codes "usage: command"
 fault_text (Word at) = joined (codes "usage: word " ∷ decimal at ∷ [])
 fault_text Options = codes "usage: options"
-fault_text (Value name) = joined (codes "usage: value of --" ∷ string_bytes name ∷ [])
+fault_text (Value name) = joined (codes "usage: value of --" ∷ name ∷ [])
 fault_text (Pixels n) = joined (codes "usage: " ∷ decimal n ∷ codes " pixels exceed 50000000" ∷ [])
-fault_text (NoFile name) = joined (codes "no file " ∷ string_bytes name ∷ [])
-fault_text (ReadFault name) = joined (codes "read fault in " ∷ string_bytes name ∷ [])
-fault_text (Fields name line n) = joined (string_bytes name ∷ codes ": line " ∷ decimal line ∷ codes ": " ∷ decimal n ∷ codes " fields" ∷ [])
-fault_text (Number name line field) = joined (string_bytes name ∷ codes ": line " ∷ decimal line ∷ codes " field " ∷ decimal field ∷ codes ": not a number" ∷ [])
-fault_text (Range name line field) = joined (string_bytes name ∷ codes ": line " ∷ decimal line ∷ codes " field " ∷ decimal field ∷ codes ": out of range" ∷ [])
-fault_text (NotLas name) = joined (string_bytes name ∷ codes ": not a LAS file" ∷ [])
-fault_text (HeaderShort name have) = joined (string_bytes name ∷ codes ": header ends at " ∷ decimal have ∷ [])
-fault_text (Version name major minor) = joined (string_bytes name ∷ codes ": version " ∷ decimal major ∷ codes "." ∷ decimal minor ∷ [])
-fault_text (Compressed name byte) = joined (string_bytes name ∷ codes ": compressed points, format " ∷ decimal byte ∷ [])
-fault_text (Format name byte) = joined (string_bytes name ∷ codes ": point format " ∷ decimal byte ∷ [])
-fault_text (Length name have need) = joined (string_bytes name ∷ codes ": record length " ∷ decimal have ∷ codes ", need " ∷ decimal need ∷ [])
-fault_text (Start name offset header) = joined (string_bytes name ∷ codes ": points start at " ∷ decimal offset ∷ codes ", header " ∷ decimal header ∷ [])
-fault_text (PointsShort name have need) = joined (string_bytes name ∷ codes ": " ∷ decimal have ∷ codes " bytes, need " ∷ decimal need ∷ [])
-fault_text (Frames name first) = joined (string_bytes name ∷ codes ": scales or offsets differ from " ∷ string_bytes first ∷ [])
-fault_text (Schedule name at) = joined (string_bytes name ∷ codes ": schedule byte " ∷ decimal at ∷ [])
-fault_text (TooLong name) = joined (codes "limit: " ∷ string_bytes name ∷ codes " is longer than 1000000000 bytes" ∷ [])
+fault_text (NoFile name) = joined (codes "no file " ∷ name ∷ [])
+fault_text (ReadFault name) = joined (codes "read fault in " ∷ name ∷ [])
+fault_text (Fields name line n) = joined (name ∷ codes ": line " ∷ decimal line ∷ codes ": " ∷ decimal n ∷ codes " fields" ∷ [])
+fault_text (Number name line field) = joined (name ∷ codes ": line " ∷ decimal line ∷ codes " field " ∷ decimal field ∷ codes ": not a number" ∷ [])
+fault_text (Range name line field) = joined (name ∷ codes ": line " ∷ decimal line ∷ codes " field " ∷ decimal field ∷ codes ": out of range" ∷ [])
+fault_text (NotLas name) = joined (name ∷ codes ": not a LAS file" ∷ [])
+fault_text (HeaderShort name have) = joined (name ∷ codes ": header ends at " ∷ decimal have ∷ [])
+fault_text (Version name major minor) = joined (name ∷ codes ": version " ∷ decimal major ∷ codes "." ∷ decimal minor ∷ [])
+fault_text (Compressed name byte) = joined (name ∷ codes ": compressed points, format " ∷ decimal byte ∷ [])
+fault_text (Format name byte) = joined (name ∷ codes ": point format " ∷ decimal byte ∷ [])
+fault_text (Length name have need) = joined (name ∷ codes ": record length " ∷ decimal have ∷ codes ", need " ∷ decimal need ∷ [])
+fault_text (Start name offset header) = joined (name ∷ codes ": points start at " ∷ decimal offset ∷ codes ", header " ∷ decimal header ∷ [])
+fault_text (PointsShort name have need) = joined (name ∷ codes ": " ∷ decimal have ∷ codes " bytes, need " ∷ decimal need ∷ [])
+fault_text (Frames name first) = joined (name ∷ codes ": scales or offsets differ from " ∷ first ∷ [])
+fault_text (Schedule name at) = joined (name ∷ codes ": schedule byte " ∷ decimal at ∷ [])
+fault_text (TooLong name) = joined (codes "limit: " ∷ name ∷ codes " is longer than 1000000000 bytes" ∷ [])
 fault_text (Axis axis span) = joined (codes "limit: axis " ∷ (axis_letter axis ∷ []) ∷ codes " spans " ∷ decimal span ∷ [])
 fault_text Batches = codes "limit: batches"
 fault_text (Batch row) = joined (codes "limit: batch " ∷ decimal row.input ∷ codes " " ∷ refused_rest row.cause ∷ [])

@@ -1,11 +1,12 @@
 ghost use Rattle.std.specs.Prelude.{◌≡◌};
 ghost use Rattle.run_report.specs.declared.fault.Fault.TheVariants.{Memory};
 
+use crate::name::Name;
 use cube_math::RefusedRow;
 use std::alloc::{AllocError, AllocFailed};
 
 /// Why a run ended before its output was whole. A `name` is a file's name as the words gave it.
-#[derive(Debug, PartialEq, Eq, Drop)]
+#[derive(Debug, Drop)]
 pub enum Fault {
     /// The output could not be written.
     Output,
@@ -19,7 +20,7 @@ pub enum Fault {
     Options,
     /// The value of the option of this name is not of its form or out of its range.
     Value {
-        name: String,
+        name: Name,
     },
     /// All frames together would have this many pixels.
     Pixels {
@@ -27,86 +28,86 @@ pub enum Fault {
     },
     /// There is no file of this name.
     NoFile {
-        name: String,
+        name: Name,
     },
     /// The file could not be read to its end.
     ReadFault {
-        name: String,
+        name: Name,
     },
     /// A line of text, counted from 1, has `n` fields.
     Fields {
-        name: String,
+        name: Name,
         line: u64,
         n: u64,
     },
     /// A field, counted from 1, is not a number.
     Number {
-        name: String,
+        name: Name,
         line: u64,
         field: u32,
     },
     /// A field's number is out of range.
     Range {
-        name: String,
+        name: Name,
         line: u64,
         field: u32,
     },
     /// The file does not begin as LAS.
     NotLas {
-        name: String,
+        name: Name,
     },
     /// The LAS file ends in its header, after `have` bytes.
     HeaderShort {
-        name: String,
+        name: Name,
         have: u64,
     },
     /// The LAS version is not one that is read.
     Version {
-        name: String,
+        name: Name,
         major: u8,
         minor: u8,
     },
     /// The LAS points are compressed.
     Compressed {
-        name: String,
+        name: Name,
         byte: u8,
     },
     /// The LAS point format is not one that is read.
     Format {
-        name: String,
+        name: Name,
         byte: u8,
     },
     /// The LAS point records have `have` bytes, too few for their format.
     Length {
-        name: String,
+        name: Name,
         have: u16,
         need: u16,
     },
     /// The LAS points would start within the header.
     Start {
-        name: String,
+        name: Name,
         offset: u32,
         header: u32,
     },
     /// The LAS file has `have` bytes, too few for its points.
     PointsShort {
-        name: String,
+        name: Name,
         have: u64,
         need: u128,
     },
     /// The scales or offsets of a LAS file differ from those of the first.
     Frames {
-        name: String,
-        first: String,
+        name: Name,
+        first: Name,
     },
     /// The schedule's word that begins at this byte, from 0, is not of its form.
     Schedule {
-        name: String,
+        name: Name,
         at: u64,
     },
     /// The file has more than 1,000,000,000 bytes.
     TooLong {
-        name: String,
+        name: Name,
     },
     /// On this axis, 0 to 2 for x, y and z, the points span more than a cube can.
     Axis {

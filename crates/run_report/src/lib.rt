@@ -3,6 +3,8 @@
 
 mod fault;
 mod line;
+mod name;
 
 pub use fault::Fault;
 pub use line::{fault_line, out_of_memory_line, output_fault_line};
+pub use name::Name;

@@ -1,6 +1,7 @@
 ghost use Rattle.run_report.specs.Faults.{HasAxis};
 
 use super::*;
+use crate::name::Name;
 use cube_math::RefusedRow;
 use std::process::Abort;
 use std::test::Fail;
@@ -33,7 +34,7 @@ fn lines_that_name_no_file(rt: HostRuntime) -> Result<(), Fail> {
     expect_line(&rt, alloc, &fault, "simlod: usage: word 2\n")?;
     let fault = Fault::Options;
     expect_line(&rt, alloc, &fault, "simlod: usage: options\n")?;
-    let name = String::from_str(alloc, "leaf")?;
+    let name = Name::new(alloc, "leaf")?;
     let fault = Fault::Value { name };
     expect_line(&rt, alloc, &fault, "simlod: usage: value of --leaf\n")?;
     let fault = Fault::Pixels { n: 104_923_136 };
@@ -100,20 +101,20 @@ fn lines_of_refused_batches(rt: HostRuntime) -> Result<(), Fail> {
 #[test]
 fn lines_that_name_a_text_file(rt: HostRuntime) -> Result<(), Fail> {
     let alloc = rt.alloc();
-    let name = String::from_str(alloc, "three.xyz")?;
+    let name = Name::new(alloc, "three.xyz")?;
     let fault = Fault::NoFile { name };
     expect_line(&rt, alloc, &fault, "simlod: no file three.xyz\n")?;
-    let name = String::from_str(alloc, "three.xyz")?;
+    let name = Name::new(alloc, "three.xyz")?;
     let fault = Fault::ReadFault { name };
     expect_line(&rt, alloc, &fault, "simlod: read fault in three.xyz\n")?;
-    let name = String::from_str(alloc, "a")?;
+    let name = Name::new(alloc, "a")?;
     let fault = Fault::Fields {
         name,
         line: 1,
         n: 5,
     };
     expect_line(&rt, alloc, &fault, "simlod: a: line 1: 5 fields\n")?;
-    let name = String::from_str(alloc, "a")?;
+    let name = Name::new(alloc, "a")?;
     let fault = Fault::Number {
         name,
         line: 2,
@@ -125,7 +126,7 @@ fn lines_that_name_a_text_file(rt: HostRuntime) -> Result<(), Fail> {
         &fault,
         "simlod: a: line 2 field 1: not a number\n",
     )?;
-    let name = String::from_str(alloc, "a")?;
+    let name = Name::new(alloc, "a")?;
     let fault = Fault::Range {
         name,
         line: 3,
@@ -137,10 +138,10 @@ fn lines_that_name_a_text_file(rt: HostRuntime) -> Result<(), Fail> {
         &fault,
         "simlod: a: line 3 field 4: out of range\n",
     )?;
-    let name = String::from_str(alloc, "s")?;
+    let name = Name::new(alloc, "s")?;
     let fault = Fault::Schedule { name, at: 4 };
     expect_line(&rt, alloc, &fault, "simlod: s: schedule byte 4\n")?;
-    let name = String::from_str(alloc, "a")?;
+    let name = Name::new(alloc, "a")?;
     let fault = Fault::TooLong { name };
     let want = "simlod: limit: a is longer than 1000000000 bytes\n";
     expect_line(&rt, alloc, &fault, want)?;
@@ -150,27 +151,27 @@ fn lines_that_name_a_text_file(rt: HostRuntime) -> Result<(), Fail> {
 #[test]
 fn lines_that_name_a_las_file(rt: HostRuntime) -> Result<(), Fail> {
     let alloc = rt.alloc();
-    let name = String::from_str(alloc, "a.las")?;
+    let name = Name::new(alloc, "a.las")?;
     let fault = Fault::NotLas { name };
     expect_line(&rt, alloc, &fault, "simlod: a.las: not a LAS file\n")?;
-    let name = String::from_str(alloc, "a.las")?;
+    let name = Name::new(alloc, "a.las")?;
     let fault = Fault::HeaderShort { name, have: 3 };
     expect_line(&rt, alloc, &fault, "simlod: a.las: header ends at 3\n")?;
-    let name = String::from_str(alloc, "a.las")?;
+    let name = Name::new(alloc, "a.las")?;
     let fault = Fault::Version {
         name,
         major: 1,
         minor: 5,
     };
     expect_line(&rt, alloc, &fault, "simlod: a.las: version 1.5\n")?;
-    let name = String::from_str(alloc, "a.las")?;
+    let name = Name::new(alloc, "a.las")?;
     let fault = Fault::Compressed { name, byte: 130 };
     let want = "simlod: a.las: compressed points, format 130\n";
     expect_line(&rt, alloc, &fault, want)?;
-    let name = String::from_str(alloc, "a.las")?;
+    let name = Name::new(alloc, "a.las")?;
     let fault = Fault::Format { name, byte: 9 };
     expect_line(&rt, alloc, &fault, "simlod: a.las: point format 9\n")?;
-    let name = String::from_str(alloc, "a.las")?;
+    let name = Name::new(alloc, "a.las")?;
     let fault = Fault::Length {
         name,
         have: 19,
@@ -182,7 +183,7 @@ fn lines_that_name_a_las_file(rt: HostRuntime) -> Result<(), Fail> {
         &fault,
         "simlod: a.las: record length 19, need 20\n",
     )?;
-    let name = String::from_str(alloc, "a.las")?;
+    let name = Name::new(alloc, "a.las")?;
     let fault = Fault::Start {
         name,
         offset: 226,
@@ -190,15 +191,15 @@ fn lines_that_name_a_las_file(rt: HostRuntime) -> Result<(), Fail> {
     };
     let want = "simlod: a.las: points start at 226, header 227\n";
     expect_line(&rt, alloc, &fault, want)?;
-    let name = String::from_str(alloc, "a.las")?;
+    let name = Name::new(alloc, "a.las")?;
     let fault = Fault::PointsShort {
         name,
         have: 282,
         need: 283,
     };
     expect_line(&rt, alloc, &fault, "simlod: a.las: 282 bytes, need 283\n")?;
-    let name = String::from_str(alloc, "b.las")?;
-    let first = String::from_str(alloc, "a.las")?;
+    let name = Name::new(alloc, "b.las")?;
+    let first = Name::new(alloc, "a.las")?;
     let fault = Fault::Frames { name, first };
     let want = "simlod: b.las: scales or offsets differ from a.las\n";
     expect_line(&rt, alloc, &fault, want)?;

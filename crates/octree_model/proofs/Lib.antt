@@ -1,6 +1,8 @@
 pub mod AscendingLaws
 pub mod BagLaws
 pub mod CountLaws
+pub mod FilterLaws
 mod Examples
 pub mod NumberLaws
 pub mod OctreeLaws
+pub mod SameBagLaws

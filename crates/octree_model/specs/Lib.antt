@@ -1,5 +1,6 @@
 pub mod Bags
 pub mod Counts
+pub mod Facts
 pub mod Numbers
 pub mod Octree
 pub mod Outlines

@@ -7,7 +7,7 @@ mod outline;
 mod tree;
 mod voxel;
 
-pub use laws::leaves_keep_points;
+pub use laws::{leaves_keep_points, same_points_have_same_octree};
 pub use outline::OutlineNode;
 pub use tree::{InnerNode, Points, Tree};
 pub use voxel::Voxel;

@@ -1,17 +1,22 @@
 -- Fitted cubes.
-use Rattle.std.proofs.Common.{◌≡◌, ◌≤◌, ◌<◌, ◌+◌, ◌-◌, ◌*◌, ◌%◌, ◌^◌, ℕ, ℤ, pos, ◌-ℤ◌, ◌+ℤ◌, ◌≤ℤ◌, ◌<ℤ◌, unsigned_abs, max, List, [], ◌∷◌, map, take, length, get_or, fold, IsTrue, true, false, cond, int_le, int_lt, ◌⊎◌, ap, ◌∙◌, sym, refl, arith, inl, inr, to_z, of_z, w32, w64}
+use Rattle.std.proofs.Common.{zero, suc, Bool, ◌&&◌, nat_lt, Option, Some, None, Ok, Err, Result, ◌++◌, ◌≡◌, ◌≤◌, ◌<◌, ◌+◌, ◌-◌, ◌*◌, ◌%◌, ◌^◌, ℕ, ℤ, pos, ◌-ℤ◌, ◌+ℤ◌, ◌≤ℤ◌, ◌<ℤ◌, unsigned_abs, max, List, [], ◌∷◌, map, take, length, get_or, fold, IsTrue, true, false, cond, int_le, int_lt, ◌⊎◌, ap, ◌∙◌, sym, refl, arith, inl, inr, to_z, of_z, w32, w64}
+use Rattle.std.specs.Prelude.{find, unwrap_or}
 use Rattle.std.specs.List.{All}
+use Rattle.std.specs.Option.{option_map_or}
 use Rattle.std.specs.Int.{int_min, int_max}
 use Rattle.std.proofs.lemmas.Int.{to_z-of_z, to_z_pos, ints, clamps, fold-int_min_bounds, fold-int_max_bounds}
 use Rattle.std.proofs.lemmas.List.Elements.{All-nil, All-cons}
-use Rattle.std.proofs.lemmas.Bool.{lt-leb, cases_lt, and_from}
+use Rattle.std.proofs.lemmas.Bool.{lt-leb, lt-ltb, cases_lt, and_from}
+use borrow.Author.Tests.{ltb-true}
 use Rattle.std.proofs.lemmas.List.{take_more, map-append, get_or-map, length-map}
 use Rattle.std.proofs.lemmas.List.Sums.{fold_push}
 use Rattle.std.proofs.lemmas.Nat.{one_shl}
 use Rattle.std.proofs.Math.Nat.{pow-le-pow_right}
 use Rattle.cube_math.specs.Points.{PointValue}
-use Rattle.cube_math.specs.Cubes.{on_axis, contains, FitsSpace}
-use Rattle.octree_plain.specs.Fitting.{origin, on_x, on_y, on_z, least_of, greatest_of, span_of, IsFittedCube}
+use Rattle.cube_math.specs.Cubes.{CubeValue, on_axis, contains, FitsSpace}
+use Rattle.octree_plain.specs.declared.fitting.Span.{Span}
+use Rattle.octree_plain.specs.Fitting.{origin, on_x, on_y, on_z, least_of, greatest_of, span_of, all_span_below, wide_axis, fitted_bits, fitted_cube, cube_round}
+use Rattle.octree_model.specs.Numbers.{up_to}
 use mir.Val.{SFits}
 
 le_to : (a b : ℤ) → a ≤ℤ b → int_le a b ≡ true
@@ -147,6 +152,22 @@ fits_space ps x y z bits ox oy oz a b c low high = record {
   z_end = rw c.is_origin (axis_end (least_of (on_z ps)) bits);
 }
 
+-- each axis spans less than 2 ^ bits
+pub record AllSpanBelow (ps : List PointValue) (bits : ℕ) : Type 0 where
+  pub x : span_of (on_x ps) < 2 ^ bits
+  pub y : span_of (on_y ps) < 2 ^ bits
+  pub z : span_of (on_z ps) < 2 ^ bits
+
+-- a cube that fits points, by what the code finds out
+pub record IsFittedCube (ps : List PointValue) (cube : CubeValue) : Type 0 where
+  pub narrow : wide_axis ps ≡ None
+  pub from_seven : 7 ≤ cube.bits
+  pub fits : AllSpanBelow ps cube.bits
+  pub least : (bits : ℕ) → 7 ≤ bits → AllSpanBelow ps bits → cube.bits ≤ bits
+  pub ox : cube.ox ≡ origin (least_of (on_x ps)) cube.bits
+  pub oy : cube.oy ≡ origin (least_of (on_y ps)) cube.bits
+  pub oz : cube.oz ≡ origin (least_of (on_z ps)) cube.bits
+
 pub fitted : (ps : List PointValue) (x y z bits : ℕ) (ox oy oz : ℤ) → Axis (on_x ps) x bits ox → Axis (on_y ps) y bits oy → Axis (on_z ps) z bits oz → 7 ≤ bits
     → (7 < bits → 2 ^ (bits - 1) ≤ max (max x y) z) → IsFittedCube ps record { ox = ox; oy = oy; oz = oz; bits = bits }
 fitted ps x y z bits ox oy oz a b c low least =
@@ -179,3 +200,81 @@ contains_all ps x y z bits ox oy oz a b c k d l =
     let has_y : IsTrue (on_axis oy bits p.y) = rw b.is_origin (axis_has_each (λ q. q.y) ps bits b.fits (rw (← b.is_span) b.below) k d l) in
     let has_z : IsTrue (on_axis oz bits p.z) = rw c.is_origin (axis_has_each (λ q. q.z) ps bits c.fits (rw (← c.is_span) c.below) k d l) in
     and_from _ _ (and_from _ _ has_x has_y) has_z
+
+both_pass : (a b : Bool) → (a && b) ≡ true → (a ≡ true) × (b ≡ true)
+both_pass true true e = (refl, refl)
+both_pass true false e = cc
+both_pass false b e = cc
+
+-- the test of the spans says what it tests
+passes_below : (ps : List PointValue) (bits : ℕ) → AllSpanBelow ps bits → all_span_below ps bits ≡ true
+passes_below ps bits h = and_from _ _ (and_from _ _ (lt-ltb _ _ h.x) (lt-ltb _ _ h.y)) (lt-ltb _ _ h.z)
+
+below_passed : (ps : List PointValue) (bits : ℕ) → all_span_below ps bits ≡ true → AllSpanBelow ps bits
+below_passed ps bits e =
+    let all = both_pass (nat_lt (span_of (on_x ps)) (2 ^ bits) && nat_lt (span_of (on_y ps)) (2 ^ bits)) (nat_lt (span_of (on_z ps)) (2 ^ bits)) e in
+    let two = both_pass (nat_lt (span_of (on_x ps)) (2 ^ bits)) (nat_lt (span_of (on_y ps)) (2 ^ bits)) all.0 in
+    record { x = ltb-true _ _ two.0; y = ltb-true _ _ two.1; z = ltb-true _ _ all.1 }
+
+find_left : (test : ℕ → Bool) (xs ys : List ℕ) (b : ℕ) → find test xs ≡ Some b → find test (xs ++ ys) ≡ Some b
+find_left test [] ys b e = cc
+find_left test (x ∷ xs) ys b e = elim (test x) as (λ t. cond t (Some x) (find test xs) ≡ Some b → cond t (Some x) (find test (xs ++ ys)) ≡ Some b) [
+  | true ↦ λ h. h
+  | false ↦ λ h. find_left test xs ys b h
+] e
+
+find_right : (test : ℕ → Bool) (xs ys : List ℕ) → find test xs ≡ None → find test (xs ++ ys) ≡ find test ys
+find_right test [] ys e = refl
+find_right test (x ∷ xs) ys e = elim (test x) as (λ t. cond t (Some x) (find test xs) ≡ None → cond t (Some x) (find test (xs ++ ys)) ≡ find test ys) [
+  | true ↦ λ h. cc
+  | false ↦ λ h. find_right test xs ys h
+] e
+
+from_seven : ℕ → List ℕ
+from_seven n = map (λ k. 7 + k) (up_to n)
+
+-- of the numbers from 7 on, none passes
+none_passes : (test : ℕ → Bool) (n : ℕ) → ((k : ℕ) → k < n → test (7 + k) ≡ false) → find test (from_seven n) ≡ None
+unfolding from_seven
+none_passes test zero fails = refl
+none_passes test (suc n) fails =
+    let last : test (7 + n) ≡ false = fails n (omega arith) in
+    ap (find test) (map-append (λ k. 7 + k) (up_to n) (n ∷ [])) ∙ find_right test (from_seven n) ((7 + n) ∷ []) (none_passes test n (λ k l. fails k (omega arith))) ∙ rw last refl
+
+-- of the numbers from 7 on, this is the first that passes
+first_passes : (test : ℕ → Bool) (n b : ℕ) → b < n → test (7 + b) ≡ true → ((k : ℕ) → k < b → test (7 + k) ≡ false) → find test (from_seven n) ≡ Some (7 + b)
+unfolding from_seven
+first_passes test zero b l passes fails = absurd (omega arith)
+first_passes test (suc n) b l passes fails = elim (cases_lt b n) [
+  | inl below ↦ ap (find test) (map-append (λ k. 7 + k) (up_to n) (n ∷ [])) ∙ find_left test (from_seven n) ((7 + n) ∷ []) (7 + b) (first_passes test n b below passes fails)
+  | inr above ↦
+      let same : n ≡ b = omega arith in
+      ap (find test) (map-append (λ k. 7 + k) (up_to n) (n ∷ [])) ∙ find_right test (from_seven n) ((7 + n) ∷ []) (none_passes test n (λ k l. fails k (omega arith)))
+      ∙ ap (λ m. find test ((7 + m) ∷ [])) same ∙ rw passes refl
+]
+
+fails_below : (ps : List PointValue) (cube : CubeValue) (k : ℕ) → IsFittedCube ps cube → k + 7 < cube.bits → (t : Bool) → all_span_below ps (7 + k) ≡ t → t ≡ false
+fails_below ps cube k h l true e = let enough : cube.bits ≤ 7 + k = h.least (7 + k) (omega arith) (below_passed ps (7 + k) e) in absurd (omega arith)
+fails_below ps cube k h l false e = refl
+
+bits_found : (ps : List PointValue) (cube : CubeValue) → cube.bits ≤ 31 → IsFittedCube ps cube → fitted_bits ps ≡ Some (7 + (cube.bits - 7))
+unfolding fitted_bits from_seven
+bits_found ps cube high h =
+    let same : 7 + (cube.bits - 7) ≡ cube.bits = omega (arith, h.from_seven) in
+    first_passes (all_span_below ps) 25 (cube.bits - 7) (omega (arith, h.from_seven)) (ap (all_span_below ps) same ∙ passes_below ps cube.bits h.fits)
+    (λ k l. fails_below ps cube k h (omega (arith, h.from_seven)) (all_span_below ps (7 + k)) refl)
+
+rounded : (ps : List PointValue) (cube : CubeValue) → IsFittedCube ps cube → cube_round ps cube.bits ≡ cube
+rounded ps cube h = λ i. record { ox = sym h.ox i; oy = sym h.oy i; oz = sym h.oz i; bits = cube.bits }
+
+-- what the code found is the fitted cube
+pub is_fitted : (ps : List PointValue) (cube : CubeValue) → cube.bits ≤ 31 → IsFittedCube ps cube → fitted_cube ps ≡ Ok cube
+is_fitted ps cube high h =
+    let same : 7 + (cube.bits - 7) ≡ cube.bits = omega (arith, h.from_seven) in
+    ap (λ (o : Option Span). option_map_or (λ (span : Span). Err span) o (Ok (cube_round ps (unwrap_or (fitted_bits ps) 31)))) h.narrow
+    ∙ ap (λ (o : Option ℕ). Ok (cube_round ps (unwrap_or o 31))) (bits_found ps cube high h)
+    ∙ ap (λ (b : ℕ). Ok (cube_round ps b)) same ∙ ap Ok (rounded ps cube h)
+
+-- an axis that is too wide refuses the cube
+pub too_wide : (ps : List PointValue) (span : Span) → wide_axis ps ≡ Some span → fitted_cube ps ≡ Err span
+too_wide ps span wide = ap (λ (o : Option Span). option_map_or (λ (s : Span). Err s) o (Ok (cube_round ps (unwrap_or (fitted_bits ps) 31)))) wide

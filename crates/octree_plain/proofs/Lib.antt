@@ -1,7 +1,6 @@
 pub mod Children
 pub mod FittingLaws
 pub mod ListingLaws
-pub mod Marks
 pub mod Nearest
 pub mod NodeLaws
 pub mod ShapeLaws

@@ -14,7 +14,7 @@ use Rattle.std.specs.List.{AllClonesOf}
 use Rattle.octree_model.specs.Numbers.{up_to, has, with_number}
 use Rattle.octree_model.proofs.AscendingLaws.{filter_next}
 use Rattle.octree_plain.specs.CellSets.{is_marked, marked_cells, set_bits}
-use Rattle.octree_plain.proofs.Marks.{filter_same, filter_none, filter_with, filter_lowest, has-filter}
+use Rattle.octree_model.proofs.FilterLaws.{filter_same, filter_none, filter_with, filter_lowest, has-filter}
 
 -- ---- the bits of a word
 abbrev pub is_set : ℕ → ℕ → Bool

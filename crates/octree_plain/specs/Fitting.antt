@@ -1,8 +1,10 @@
 -- The cube that fits points: the least of the cubes from 7 bits on whose side is above the span of each axis.
-use Rattle.std.specs.Prelude.{ℕ, ◌≡◌, ◌<◌, ◌≤◌, ◌^◌, nat_le, List, [], ◌∷◌, map, fold, Option, Some, None, if◌then◌else◌, ℤ, pos, ◌-ℤ◌, unsigned_abs}
+use Rattle.std.specs.Prelude.{ℕ, ◌+◌, ◌^◌, Bool, ◌&&◌, nat_le, nat_lt, find, unwrap_or, Result, Ok, Err, List, [], ◌∷◌, map, fold, Option, Some, None, if◌then◌else◌, ℤ, pos, ◌-ℤ◌, unsigned_abs}
 use Rattle.std.specs.Int.{int_min, int_max}
+use Rattle.std.specs.Option.{option_map_or}
 use Rattle.cube_math.specs.Points.{PointValue}
 use Rattle.cube_math.specs.Cubes.{CubeValue}
+use Rattle.octree_model.specs.Numbers.{up_to}
 use Rattle.octree_plain.specs.declared.fitting.Span.{Span}
 
 -- the x coordinates of points
@@ -39,22 +41,22 @@ wide_axis ps =
     else if nat_le (2 ^ 31) (span_of (on_z ps)) then Some record { axis = 2; span = span_of (on_z ps) }
     else None
 
--- each axis spans less than 2 ^ bits
-pub record AllSpanBelow (ps : List PointValue) (bits : ℕ) : Type 0 where
-  pub x : span_of (on_x ps) < 2 ^ bits
-  pub y : span_of (on_y ps) < 2 ^ bits
-  pub z : span_of (on_z ps) < 2 ^ bits
+-- whether each axis spans less than 2 ^ bits
+abbrev pub all_span_below : List PointValue → ℕ → Bool
+all_span_below ps bits = nat_lt (span_of (on_x ps)) (2 ^ bits) && nat_lt (span_of (on_y ps)) (2 ^ bits) && nat_lt (span_of (on_z ps)) (2 ^ bits)
+
+-- the least number of bits, from 7 to 31, for which each axis spans less than 2 ^ bits
+unfoldable pub fitted_bits : List PointValue → Option ℕ
+fitted_bits ps = find (all_span_below ps) (map (λ k. 7 + k) (up_to 25))
 
 -- where an axis of so many bits begins: the lesser of the least coordinate and 2 ^ 31 - 2 ^ bits
 abbrev pub origin : ℤ → ℕ → ℤ
 origin least bits = int_min least (pos (2 ^ 31) -ℤ pos (2 ^ bits))
 
--- the cube for points of which no axis is too wide: its bits are the least number, from 7 on, for which each axis spans less than 2 ^ bits
-pub record IsFittedCube (ps : List PointValue) (cube : CubeValue) : Type 0 where
-  pub narrow : wide_axis ps ≡ None
-  pub from_seven : 7 ≤ cube.bits
-  pub fits : AllSpanBelow ps cube.bits
-  pub least : (bits : ℕ) → 7 ≤ bits → AllSpanBelow ps bits → cube.bits ≤ bits
-  pub ox : cube.ox ≡ origin (least_of (on_x ps)) cube.bits
-  pub oy : cube.oy ≡ origin (least_of (on_y ps)) cube.bits
-  pub oz : cube.oz ≡ origin (least_of (on_z ps)) cube.bits
+-- the cube of so many bits round points
+abbrev pub cube_round : List PointValue → ℕ → CubeValue
+cube_round ps bits = record { ox = origin (least_of (on_x ps)) bits; oy = origin (least_of (on_y ps)) bits; oz = origin (least_of (on_z ps)) bits; bits = bits }
+
+-- the cube that fits points, or the first axis that is too wide
+abbrev pub fitted_cube : List PointValue → Result CubeValue Span
+fitted_cube ps = option_map_or (λ span. Err span) (wide_axis ps) (Ok (cube_round ps (unwrap_or (fitted_bits ps) 31)))

@@ -1,7 +1,7 @@
-ghost use Rattle.std.specs.Prelude.{◌≡◌, ◌≤◌, ◌<◌, ◌^◌, ◌-◌, ◌-ℤ◌, unsigned_abs, Some, IfOk, IfErr, All, IsTrue};
+ghost use Rattle.std.specs.Prelude.{◌≡◌, ◌≤◌, ◌<◌, ◌^◌, ◌-◌, ◌-ℤ◌, unsigned_abs, Ok, Err, IfOk, IfErr, All, IsTrue};
 ghost use Rattle.std.specs.Int.{int_min, int_max};
 ghost use Rattle.cube_math.specs.Cubes.{contains};
-ghost use Rattle.octree_plain.specs.Fitting.{IsFittedCube, wide_axis, least_of, greatest_of, on_x, on_y, on_z, origin};
+ghost use Rattle.octree_plain.specs.Fitting.{fitted_cube, least_of, greatest_of, on_x, on_y, on_z, origin};
 
 use cube_math::{Cube, Point};
 
@@ -130,8 +130,8 @@ fn bits_above(span: u32) -> u32
 /// would pass 2^31. For no points it is the cube at 0 with 7 bits. The first axis that spans 2^31 or
 /// more is the refusal. It takes no memory.
 pub fn fit_cube(points: &[Point]) -> Result<Cube, Span>
-    ensures fitted { IfOk result (λ cube. IsFittedCube points.now cube) }
-    ensures refused { IfErr result (λ span. wide_axis points.now ≡ Some span) }
+    ensures fitted { IfOk result (λ cube. fitted_cube points.now ≡ Ok cube) }
+    ensures refused { IfErr result (λ span. fitted_cube points.now ≡ Err span) }
     ensures contained { IfOk result (λ cube. All (λ p. IsTrue (contains cube p)) points.now) }
 {
     let all = extents_of(points);

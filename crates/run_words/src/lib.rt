@@ -13,4 +13,5 @@ mod words;
 pub use command::CommandName;
 pub use job::Job;
 pub use option::OptionName;
+pub use screen::is_file;
 pub use words::{WordsFault, read_words};

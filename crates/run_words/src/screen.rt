@@ -9,7 +9,7 @@ use crate::form::fits;
 use crate::option::{OptionName, OptionRow, options};
 
 /// Whether a word names a file: it is not empty and does not begin with `-`.
-pub(crate) fn is_file(word: &str) -> bool
+pub fn is_file(word: &str) -> bool
     ensures { result ≡ is_file word.now }
 {
     match word.as_bytes() {

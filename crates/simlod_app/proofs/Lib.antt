@@ -1,3 +1,6 @@
-pub mod Accounts
-pub mod Clouds
 mod Examples
+pub mod DueLaws
+pub mod Endings
+pub mod Jobs
+pub mod OutsideRows
+pub mod Readings

@@ -1,5 +1,6 @@
 pub mod Batches
-pub mod Causes
-pub mod FaultKinds
+pub mod Dues
+pub mod Outcomes
+pub mod RunFaults
 pub mod Runs
 pub mod Statuses

@@ -1,22 +1,22 @@
 ghost use Rattle.run_report.specs.Faults.{HasAxis};
-ghost use Rattle.simlod_app.specs.FaultKinds.{IsWordsFault, IsReadFault, IsXyzFault};
+ghost use Rattle.simlod_app.specs.RunFaults.{words_fault, read_fault, xyz_fault, IsOrMemory};
 
 use cloud_io::ReadFault;
-use run_report::Fault;
+use run_report::{Fault, Name};
 use run_words::WordsFault;
 use std::alloc::Global;
 use xyz_points::XyzFault;
 
 /// The fault of words that are no job, or want of memory.
 pub fn of_words(alloc: Global, fault: WordsFault) -> Fault
-    ensures kind { IsWordsFault fault result }
+    ensures kind { IsOrMemory (words_fault fault) result }
     ensures axis { HasAxis result }
 {
     match fault {
         WordsFault::Command => Fault::Command,
         WordsFault::Word { at } => Fault::Word { at },
         WordsFault::Options => Fault::Options,
-        WordsFault::Value { name } => match String::from_str(alloc, name.word()) {
+        WordsFault::Value { name } => match Name::new(alloc, name.word()) {
             Ok(name) => Fault::Value { name },
             Err(_) => Fault::Memory,
         },
@@ -27,10 +27,10 @@ pub fn of_words(alloc: Global, fault: WordsFault) -> Fault
 
 /// The fault of a file that was not read to its end, or want of memory.
 pub fn of_read(alloc: Global, name: &str, fault: ReadFault) -> Fault
-    ensures kind { IsReadFault name.now fault result }
+    ensures kind { IsOrMemory (read_fault name.now fault) result }
     ensures axis { HasAxis result }
 {
-    let Ok(name) = String::from_str(alloc, name) else {
+    let Ok(name) = Name::new(alloc, name) else {
         return Fault::Memory;
     };
     match fault {
@@ -43,10 +43,10 @@ pub fn of_read(alloc: Global, name: &str, fault: ReadFault) -> Fault
 
 /// The fault of a text that has no points, or want of memory.
 pub fn of_xyz(alloc: Global, name: &str, fault: XyzFault) -> Fault
-    ensures kind { IsXyzFault name.now fault result }
+    ensures kind { IsOrMemory (xyz_fault name.now fault) result }
     ensures axis { HasAxis result }
 {
-    let Ok(name) = String::from_str(alloc, name) else {
+    let Ok(name) = Name::new(alloc, name) else {
         return Fault::Memory;
     };
     match fault {

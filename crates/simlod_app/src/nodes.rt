@@ -1,11 +1,15 @@
-ghost use Rattle.std.specs.Prelude.{◌≡◌, ◌<◌, ◌≤◌, ◌^◌, All, IsTrue, IfOk, IfErr, List, Some, length, map, sum, vec_items};
-ghost use Rattle.cloud_io.specs.Files.{Folder};
-ghost use Rattle.cube_math.specs.Points.{PointValue};
+ghost use Rattle.std.specs.Prelude.{◌≡◌, ◌<◌, ◌≤◌, ◌^◌, All, IsTrue, IfOk, IfErr, List, length, map, vec_items};
+ghost use Rattle.cloud_io.specs.Counts.{Rose};
 ghost use Rattle.cube_math.specs.Cubes.{contains};
+ghost use Rattle.octree_model.specs.Bags.{joined};
+ghost use Rattle.octree_model.specs.Octree.{octree};
+ghost use Rattle.octree_plain.specs.Listing.{nodes_text};
 ghost use Rattle.run_report.specs.Faults.{HasAxis};
 ghost use Rattle.run_words.specs.Values.{HasRanges};
-ghost use Rattle.simlod_app.specs.Causes.{IsFaultOfInputs, IsOwnFault};
-ghost use Rattle.simlod_app.specs.Runs.{AreClouds, IsCubeOf, IsListing};
+ghost use Rattle.simlod_app.specs.Batches.{batches, first_outside_row};
+ghost use Rattle.simlod_app.specs.Dues.{Gives, GivesOver};
+ghost use Rattle.simlod_app.specs.Outcomes.{AreSources, IsReached};
+ghost use Rattle.simlod_app.specs.Runs.{Source, clouds_of, listing, listing_in, cube_of, ◌>>=◌};
 
 use crate::scan::{join, read_clouds};
 use cloud_io::Inputs;
@@ -18,11 +22,11 @@ use std::alloc::{AllocError, Global};
 /// The listing of the octree of all points of a job's files.
 pub fn listing<I: Inputs>(alloc: Global, inputs: &mut I, job: &Job) -> Result<Vec<u8>, Fault>
     requires { HasRanges job.now }
-    ensures files { I.files inputs.new ≡ I.files inputs.old }
-    ensures counts { IsFaultOfInputs (I.faults inputs.old) (I.faults inputs.new) (I.missing inputs.old) (I.missing inputs.new) result }
+    ensures kept { I.files inputs.new ≡ I.files inputs.old }
     ensures axis { IfErr result HasAxis }
-    ensures listing { IfOk result (λ text. (clouds : List (List PointValue)) × IsListing job.now clouds text.items
-        × ((folder : Folder) → I.files inputs.old ≡ Some folder → AreClouds folder job.now.decimals job.now.files clouds)) }
+    ensures gives { (files : List Source) × AreSources (I.files inputs.old) job.now.files files
+        × GivesOver (λ name. IsReached job.now.decimals files name × Rose (I.faults inputs.old) (I.faults inputs.new)) (Rose (I.missing inputs.old) (I.missing inputs.new))
+          vec_items result (clouds_of job.now.decimals files >>= listing job.now) }
 {
     let clouds = read_clouds(alloc, inputs, job.files.as_slice(), job.decimals)?;
     clouds_listing(alloc, clouds, job)
@@ -31,87 +35,108 @@ pub fn listing<I: Inputs>(alloc: Global, inputs: &mut I, job: &Job) -> Result<Ve
 /// The listing of the octree of all points of the clouds.
 fn clouds_listing(alloc: Global, clouds: Vec<Vec<Point>>, job: &Job) -> Result<Vec<u8>, Fault>
     requires { HasRanges job.now }
-    ensures fault { IfErr result IsOwnFault }
     ensures axis { IfErr result HasAxis }
-    ensures listing { IfOk result (λ text. IsListing job.now (map vec_items clouds.items) text.items) }
+    ensures gives { Gives vec_items result (listing job.now (map vec_items clouds.items)) }
 {
-    let lengths = lengths_of(alloc, clouds.as_slice())?;
-    let points = join(alloc, clouds)?;
     // A batch has a number of 32 bits.
-    if points.len() > u32::MAX as usize {
+    if !are_few(clouds.as_slice()) {
         return Err(Fault::Memory);
     }
-    let cube = cube_of(points.as_slice(), lengths.as_slice(), job.cube, job.batch)?;
-    let tree = build_from(alloc, points, cube, job.leaf)?;
-    let text = nodes_text(alloc, &tree, &cube, job.voxels)?;
+    match job.cube {
+        Some(cube) => listing_in_given(alloc, clouds, job, cube),
+        None => listing_in_fitted(alloc, clouds, job),
+    }
+}
+
+/// Whether the clouds have fewer than 2^32 points together.
+fn are_few(clouds: &[Vec<Point>]) -> bool
+    ensures few { IsTrue result → length (joined (map vec_items clouds.now)) < 2 ^ 32 }
+{
+    let mut left = u32::MAX as usize;
+    for cloud in clouds {
+        if cloud.len() > left {
+            return false;
+        }
+        left -= cloud.len();
+    }
+    true
+}
+
+/// The listing in a cube that was given, if it contains all points.
+fn listing_in_given(
+    alloc: Global,
+    clouds: Vec<Vec<Point>>,
+    job: &Job,
+    cube: Cube,
+) -> Result<Vec<u8>, Fault>
+    requires few { length (joined (map vec_items clouds.items)) < 2 ^ 32 }
+    requires ranges { HasRanges job.now }
+    ensures axis { IfErr result HasAxis }
+    ensures gives { Gives vec_items result (listing_in job.now (map vec_items clouds.items) cube) }
+{
+    if let Some(row) = first_outside_row(clouds.as_slice(), &cube, job.batch) {
+        return Err(Fault::Batch { row });
+    }
+    let points = join(alloc, clouds)?;
+    let text = text_in(alloc, points, cube, job)?;
     Ok(text)
 }
 
-/// How many points each cloud has.
-fn lengths_of(alloc: Global, clouds: &[Vec<Point>]) -> Result<Vec<usize>, AllocError>
-    ensures { IfOk result (λ lengths. lengths.items ≡ map length (map vec_items clouds.now)) }
-{
-    let mut lengths = Vec::with_capacity(alloc, clouds.len())?;
-    for cloud in clouds {
-        lengths.push(cloud.len())?;
-    }
-    Ok(lengths)
-}
-
-/// The cube that was given, if it contains all points, or else the least cube round them.
-fn cube_of(
-    points: &[Point],
-    lengths: &[usize],
-    given: Option<Cube>,
-    batch: u32,
-) -> Result<Cube, Fault>
-    requires few { length points.now < 2 ^ 32 }
-    requires lengths { sum lengths.now ≡ length points.now }
-    requires batch { 1 ≤ batch }
-    ensures contained { IfOk result (λ cube. All (λ p. IsTrue (contains cube p)) points.now) }
-    ensures chosen { IfOk result (λ cube. IsCubeOf given points.now cube) }
-    ensures fault { IfErr result IsOwnFault }
+/// The listing in the least cube round all points, if there is one.
+fn listing_in_fitted(alloc: Global, clouds: Vec<Vec<Point>>, job: &Job) -> Result<Vec<u8>, Fault>
+    requires few { length (joined (map vec_items clouds.items)) < 2 ^ 32 }
+    requires ranges { HasRanges job.now }
     ensures axis { IfErr result HasAxis }
+    ensures gives { Gives vec_items result (cube_of None (joined (map vec_items clouds.items)) >>= listing_in job.now (map vec_items clouds.items)) }
 {
-    let Some(cube) = given else {
-        return match fit_cube(points) {
-            Ok(cube) => Ok(cube),
-            Err(span) => Err(Fault::Axis {
+    let points = join(alloc, clouds)?;
+    let cube = match fit_cube(points.as_slice()) {
+        Ok(cube) => cube,
+        Err(span) => {
+            return Err(Fault::Axis {
                 axis: span.axis,
                 span: span.span,
-            }),
-        };
+            });
+        }
     };
-    match first_outside(points, &cube) {
-        None => Ok(cube),
-        Some(at) => Err(Fault::Batch {
-            row: outside_row(lengths, batch, at),
-        }),
-    }
+    let text = text_in(alloc, points, cube, job)?;
+    Ok(text)
 }
 
-/// The row of the batch in which a point outside the cube stands at this place among all points.
-fn outside_row(lengths: &[usize], batch: u32, at: usize) -> RefusedRow
-    requires within { at < sum lengths.now }
-    requires few { sum lengths.now < 2 ^ 32 }
-    requires batch { 1 ≤ batch }
+/// The text of the octree of points in a cube.
+fn text_in(
+    alloc: Global,
+    points: Vec<Point>,
+    cube: Cube,
+    job: &Job,
+) -> Result<Vec<u8>, AllocError>
+    requires few { length points.items < 2 ^ 32 }
+    requires contained { All (λ p. IsTrue (contains cube p)) points.items }
+    requires ranges { HasRanges job.now }
+    ensures { IfOk result (λ text. text.items ≡ nodes_text job.now.voxels (octree job.now.leaf cube points.items) cube) }
 {
-    let batch = batch as usize;
-    let mut input = 0;
-    let mut rest = at;
-    for n in lengths {
-        if rest < *n {
-            input += rest / batch;
-            let cause = Cause::Outside {
-                at: (rest % batch) as u32,
-            };
-            return RefusedRow {
-                input: input as u32,
-                cause,
-            };
+    let tree = build_from(alloc, points, cube, job.leaf)?;
+    nodes_text(alloc, &tree, &cube, job.voxels)
+}
+
+/// The first batch of which the cube does not contain a point, and the place of the point in it.
+fn first_outside_row(clouds: &[Vec<Point>], cube: &Cube, batch: u32) -> Option<RefusedRow>
+    requires few { length (joined (map vec_items clouds.now)) < 2 ^ 32 }
+    requires batch { 1 ≤ batch }
+    ensures { result ≡ first_outside_row cube.now (batches batch (map vec_items clouds.now)) }
+{
+    let size = batch as usize;
+    let mut input = 0usize;
+    for cloud in clouds {
+        if let Some(at) = first_outside(cloud.as_slice(), cube) {
+            return Some(RefusedRow {
+                input: (input + at / size) as u32,
+                cause: Cause::Outside {
+                    at: (at % size) as u32,
+                },
+            });
         }
-        rest -= *n;
-        input += n.div_ceil(batch);
+        input += cloud.len().div_ceil(size);
     }
-    unreachable!()
+    None
 }

@@ -1,7 +1,9 @@
-ghost use Rattle.std.specs.Prelude.{◌≡◌, IfOk, IfErr, map, string_bytes};
-ghost use Rattle.run_report.specs.Faults.{HasAxis};
-ghost use Rattle.simlod_app.specs.Causes.{CountsAccountFor, IsFaultOfInputs, IsStatusOf, Writes};
-ghost use Rattle.simlod_app.specs.Runs.{IsOutputOf};
+ghost use Rattle.std.specs.Prelude.{◌≡◌, IfErr, List, map, string_bytes, vec_items};
+ghost use Rattle.cloud_io.specs.Counts.{Rose};
+ghost use Rattle.run_report.specs.Faults.{HasAxis, fault_line};
+ghost use Rattle.simlod_app.specs.Dues.{GivesOver};
+ghost use Rattle.simlod_app.specs.Outcomes.{AreFilesOf, IsNextOf, IsRun, TellsLine, TellsFault, outside};
+ghost use Rattle.simlod_app.specs.Runs.{Source, answer};
 
 use crate::nodes::listing;
 use crate::status::{Status, status_of};
@@ -20,9 +22,10 @@ pub fn simlod_plain<I: Inputs, K: Sink, E: Sink>(
     out: &mut K,
     errors: &mut E,
 ) -> Status
-    ensures files { I.files inputs.new ≡ I.files inputs.old }
-    ensures causes { CountsAccountFor (K.faults out.old) (K.faults out.new) (I.faults inputs.old) (I.faults inputs.new) (I.missing inputs.old) (I.missing inputs.new) result }
-    ensures output { Writes (IsOutputOf (I.files inputs.old) (map string_bytes words.now)) (K.contents out.old) (K.contents out.new) result }
+    ensures kept { I.files inputs.new ≡ I.files inputs.old }
+    ensures run { IsRun (I.files inputs.old) (map string_bytes words.now)
+        (outside (I.faults inputs.old) (I.missing inputs.old) (K.contents out.old) (K.faults out.old) (E.contents errors.old) (E.faults errors.old))
+        (outside (I.faults inputs.new) (I.missing inputs.new) (K.contents out.new) (K.faults out.new) (E.contents errors.new) (E.faults errors.new)) result }
 {
     match output_of(alloc, words, inputs) {
         Err(fault) => refuse(alloc, &fault, errors),
@@ -38,10 +41,11 @@ pub fn simlod_plain<I: Inputs, K: Sink, E: Sink>(
 
 /// The whole output, or why there is none.
 fn output_of<I: Inputs>(alloc: Global, words: &[String], inputs: &mut I) -> Result<Vec<u8>, Fault>
-    ensures files { I.files inputs.new ≡ I.files inputs.old }
-    ensures counts { IsFaultOfInputs (I.faults inputs.old) (I.faults inputs.new) (I.missing inputs.old) (I.missing inputs.new) result }
+    ensures kept { I.files inputs.new ≡ I.files inputs.old }
     ensures axis { IfErr result HasAxis }
-    ensures output { IfOk result (λ text. IsOutputOf (I.files inputs.old) (map string_bytes words.now) text.items) }
+    ensures gives { (files : List Source) × AreFilesOf (I.files inputs.old) (map string_bytes words.now) files
+        × GivesOver (λ name. IsNextOf (map string_bytes words.now) files name × Rose (I.faults inputs.old) (I.faults inputs.new)) (Rose (I.missing inputs.old) (I.missing inputs.new))
+          vec_items result (answer (map string_bytes words.now) files) }
 {
     let job = read_job(alloc, words)?;
     listing(alloc, inputs, &job)
@@ -50,7 +54,7 @@ fn output_of<I: Inputs>(alloc: Global, words: &[String], inputs: &mut I) -> Resu
 /// Tells a fault, and answers its status, or that there was no memory for its line.
 fn refuse<E: Sink>(alloc: Global, fault: &Fault, errors: &mut E) -> Status
     requires { HasAxis fault.now }
-    ensures { IsStatusOf fault.now result }
+    ensures { TellsFault (E.contents errors.old) (E.contents errors.new) (E.faults errors.old) (E.faults errors.new) fault.now result }
 {
     let line = match fault {
         Fault::Memory => None,
@@ -69,6 +73,8 @@ fn refuse<E: Sink>(alloc: Global, fault: &Fault, errors: &mut E) -> Status
 }
 
 /// Writes a line to the error stream. Where that fails there is nobody to tell.
-fn tell<E: Sink>(errors: &mut E, line: &[u8]) {
+fn tell<E: Sink>(errors: &mut E, line: &[u8])
+    ensures { TellsLine (E.contents errors.old) (E.contents errors.new) (E.faults errors.old) (E.faults errors.new) line.now }
+{
     let _ = write_all(errors, line);
 }

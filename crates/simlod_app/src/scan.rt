@@ -1,9 +1,10 @@
-ghost use Rattle.std.specs.Prelude.{◌≡◌, ◌≤◌, IfOk, IfErr, Some, map, string_bytes, vec_items};
-ghost use Rattle.cloud_io.specs.Files.{Folder};
+ghost use Rattle.std.specs.Prelude.{◌≡◌, ◌≤◌, ℕ, IfOk, IfErr, List, Option, map, string_bytes, vec_items};
+ghost use Rattle.cloud_io.specs.Counts.{Rose};
 ghost use Rattle.octree_model.specs.Bags.{joined};
 ghost use Rattle.run_report.specs.Faults.{HasAxis};
-ghost use Rattle.simlod_app.specs.Causes.{IsFaultOfInputs};
-ghost use Rattle.simlod_app.specs.Runs.{AreClouds, cloud_of};
+ghost use Rattle.simlod_app.specs.Dues.{GivesOver};
+ghost use Rattle.simlod_app.specs.Outcomes.{AreSources, IsSource, IsReached};
+ghost use Rattle.simlod_app.specs.Runs.{Source, clouds_of, cloud_in};
 
 use crate::faults;
 use cloud_io::{Inputs, read_all};
@@ -19,17 +20,18 @@ const MOST_BYTES: u64 = 1_000_000_000;
 pub fn read_clouds<I: Inputs>(
     alloc: Global,
     inputs: &mut I,
-    files: &[String],
+    names: &[String],
     decimals: u32,
 ) -> Result<Vec<Vec<Point>>, Fault>
     requires { decimals ≤ 9 }
-    ensures files { I.files inputs.new ≡ I.files inputs.old }
-    ensures counts { IsFaultOfInputs (I.faults inputs.old) (I.faults inputs.new) (I.missing inputs.old) (I.missing inputs.new) result }
+    ensures kept { I.files inputs.new ≡ I.files inputs.old }
     ensures axis { IfErr result HasAxis }
-    ensures clouds { IfOk result (λ clouds. (folder : Folder) → I.files inputs.old ≡ Some folder → AreClouds folder decimals (map string_bytes files.now) (map vec_items clouds.items)) }
+    ensures gives { (files : List Source) × AreSources (I.files inputs.old) (map string_bytes names.now) files
+        × GivesOver (λ name. IsReached decimals files name × Rose (I.faults inputs.old) (I.faults inputs.new)) (Rose (I.missing inputs.old) (I.missing inputs.new))
+          (λ clouds. map vec_items clouds.items) result (clouds_of decimals files) }
 {
     let mut clouds = Vec::new(alloc);
-    for name in files {
+    for name in names {
         let cloud = read_cloud(alloc, inputs, name.as_str(), decimals)?;
         let Ok(()) = clouds.push(cloud) else {
             return Err(Fault::Memory);
@@ -46,10 +48,12 @@ fn read_cloud<I: Inputs>(
     decimals: u32,
 ) -> Result<Vec<Point>, Fault>
     requires { decimals ≤ 9 }
-    ensures files { I.files inputs.new ≡ I.files inputs.old }
-    ensures counts { IsFaultOfInputs (I.faults inputs.old) (I.faults inputs.new) (I.missing inputs.old) (I.missing inputs.new) result }
+    ensures kept { I.files inputs.new ≡ I.files inputs.old }
+    ensures later { (I.faults inputs.old ≤ I.faults inputs.new) × (I.missing inputs.old ≤ I.missing inputs.new) }
     ensures axis { IfErr result HasAxis }
-    ensures cloud { IfOk result (λ cloud. (folder : Folder) → I.files inputs.old ≡ Some folder → cloud_of folder decimals name.now ≡ Some cloud.items) }
+    ensures gives { (content : Option (List ℕ)) × IsSource (I.files inputs.old) name.now content
+        × GivesOver (λ failed. (failed ≡ name.now) × Rose (I.faults inputs.old) (I.faults inputs.new)) (Rose (I.missing inputs.old) (I.missing inputs.new))
+          vec_items result (cloud_in decimals name.now content) }
 {
     let bytes = match read_all(alloc, inputs, name, MOST_BYTES) {
         Ok(bytes) => bytes,

@@ -1,28 +1,35 @@
-ghost use Rattle.std.specs.Prelude.{◌≡◌, ◌<◌, IfOk, IfErr, IfSome, Ok, length, map, string_bytes};
+ghost use Rattle.std.specs.Prelude.{◌≡◌, ◌<◌, IfOk, IfErr, IfSome, length, map, position, string_bytes};
+ghost use Rattle.std.specs.List.{list_any};
 ghost use Rattle.run_report.specs.Faults.{HasAxis};
-ghost use Rattle.run_words.specs.Jobs.{job};
 ghost use Rattle.run_words.specs.Values.{HasRanges};
-ghost use Rattle.run_words.specs.declared.command.CommandName.TheVariants.{Nodes};
-ghost use Rattle.simlod_app.specs.Causes.{IsOwnFault};
+ghost use Rattle.simlod_app.specs.Dues.{Gives};
+ghost use Rattle.simlod_app.specs.Runs.{ends_as, is_las, is_limit, job_here, run_here};
 
 use crate::faults;
 use run_report::Fault;
-use run_words::{CommandName, Job, read_words};
+use run_words::{CommandName, Job, is_file, read_words};
 use std::alloc::Global;
 
 /// The job of the words, if it is one that is run here: a listing of text files, without the limits on
 /// nodes and points.
 pub fn read_job(alloc: Global, words: &[String]) -> Result<Job, Fault>
-    ensures accepted { IfOk result (λ j. job (map string_bytes words.now) ≡ Ok j) }
-    ensures command { IfOk result (λ j. j.command ≡ Nodes) }
+    ensures gives { Gives (λ j. j) result (job_here (map string_bytes words.now)) }
     ensures ranges { IfOk result (λ j. HasRanges j) }
-    ensures fault { IfErr result IsOwnFault }
     ensures axis { IfErr result HasAxis }
 {
-    let job = match read_words(alloc, words) {
-        Ok(job) => job,
-        Err(fault) => return Err(faults::of_words(alloc, fault)),
-    };
+    match read_words(alloc, words) {
+        Ok(job) => run_here(words, job),
+        Err(fault) => Err(faults::of_words(alloc, fault)),
+    }
+}
+
+/// A job, if it is one that is run here.
+fn run_here(words: &[String], job: Job) -> Result<Job, Fault>
+    requires { HasRanges job }
+    ensures gives { Gives (λ j. j) result (run_here (map string_bytes words.now) job) }
+    ensures ranges { IfOk result (λ j. HasRanges j) }
+    ensures axis { IfErr result HasAxis }
+{
     match job.command {
         CommandName::Nodes => {}
         _ => return Err(Fault::Command),
@@ -32,7 +39,7 @@ pub fn read_job(alloc: Global, words: &[String]) -> Result<Job, Fault>
             at: place as u64 + 1,
         });
     }
-    if words.iter().any(|word| is_limit(word.as_str())) {
+    if has_limit(words) {
         return Err(Fault::Options);
     }
     Ok(job)
@@ -40,23 +47,37 @@ pub fn read_job(alloc: Global, words: &[String]) -> Result<Job, Fault>
 
 /// The place, from 0, of the first word that names a LAS file.
 fn las_word(words: &[String]) -> Option<usize>
-    ensures { IfSome result (λ place. place < length words.now) }
+    ensures value { result ≡ position (λ word. is_las word) (map string_bytes words.now) }
+    ensures within { IfSome result (λ place. place < length words.now) }
 {
     words.iter().position(|word| is_las(word.as_str()))
 }
 
 /// Whether a word is the name of a file that ends in `.las` or `.laz`, in capitals or not.
-fn is_las(word: &str) -> bool {
+fn is_las(word: &str) -> bool
+    ensures { result ≡ is_las word.now }
+{
+    is_file(word) && (ends_as(word, b".las") || ends_as(word, b".laz"))
+}
+
+/// Whether the last four bytes of a word are these, in capitals or not.
+fn ends_as(word: &str, end: &[u8; 4]) -> bool
+    ensures { result ≡ ends_as end.now word.now }
+{
     let bytes = word.as_bytes();
-    let n = bytes.len();
-    if n < 4 || bytes[0] == b'-' {
-        return false;
-    }
-    let end = &bytes[n - 4..];
-    end.eq_ignore_ascii_case(b".las") || end.eq_ignore_ascii_case(b".laz")
+    bytes[bytes.len().saturating_sub(4)..].eq_ignore_ascii_case(end)
 }
 
 /// Whether a word sets a limit on nodes or points.
-fn is_limit(word: &str) -> bool {
+fn has_limit(words: &[String]) -> bool
+    ensures { result ≡ list_any (λ word. is_limit word) (map string_bytes words.now) }
+{
+    words.iter().any(|word| is_limit(word.as_str()))
+}
+
+/// Whether a word sets a limit on nodes or points.
+fn is_limit(word: &str) -> bool
+    ensures { result ≡ is_limit word.now }
+{
     word.starts_with("--nodes=") || word.starts_with("--points=")
 }

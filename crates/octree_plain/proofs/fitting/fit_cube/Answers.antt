@@ -1,6 +1,6 @@
 use Rattle.std.proofs.Common.{to_z, of_z, w32, rules, arith}
 use Rattle.octree_plain.specs.Fitting.{on_x, on_y, on_z}
-use Rattle.octree_plain.proofs.FittingLaws.{Axis, axis_from, fits_space, fitted, contains_all}
+use Rattle.octree_plain.proofs.FittingLaws.{Axis, axis_from, fits_space, fitted, is_fitted, contains_all}
 use Rattle.octree_plain.proofs.fitting.fit_cube.Goals as goal
 
 x_axis : (c : goal.After-origin-3) → Axis (on_x c.args.points.now) c.in_ok-x.x c.bits_above-bits.result (to_z w32 (of_z w32 c.origin.result))
@@ -24,7 +24,7 @@ invariant_of-result c =
 
 pub returns-clause-fitted : goal.returns-clause-fitted
 returns-clause-fitted c =
-    fitted c.args.points.now _ _ _ _ _ _ _ (x_axis c) (y_axis c) (z_axis c) c.bits_above-bits.ensures.low (rw (← c.max.ensures, ← c.max-2.ensures) c.bits_above-bits.ensures.least)
+    is_fitted c.args.points.now _ c.bits_above-bits.ensures.high (fitted c.args.points.now _ _ _ _ _ _ _ (x_axis c) (y_axis c) (z_axis c) c.bits_above-bits.ensures.low (rw (← c.max.ensures, ← c.max-2.ensures) c.bits_above-bits.ensures.least))
 
 pub returns-clause-contained : goal.returns-clause-contained
 returns-clause-contained c = contains_all c.args.points.now _ _ _ _ _ _ _ (x_axis c) (y_axis c) (z_axis c)

@@ -1,18 +1,13 @@
--- The numbers below n that pass a test, and sets of cells as such numbers.
+-- The numbers below n that pass a test.
 use Rattle.std.proofs.Common.{◌≡◌, ℕ, zero, suc, ◌+◌, ◌-◌, ◌*◌, ◌/◌, ◌%◌, ◌^◌, ◌<◌, ◌≤◌, ◌≢◌, ◌⊎◌, inl, inr, Bool, true, false, ◌||◌, ◌&&◌, not, List, [], ◌∷◌, ◌++◌, map, length, get_or, set, take, drop, ap, refl, sym, arith, ◌∙◌, nat_eq, nat_lt, cond, append_assoc}
-use Rattle.std.specs.List.{filter}
-use Rattle.std.specs.Int.{bit_at, w64, bit_not, trailing_zeros}
-use Rattle.std.specs.Int.RustNames.{bit_or}
+use Rattle.std.specs.List.{All, filter}
 use Rattle.std.proofs.lemmas.Bool.{cases_lt, cases_eq, lt-ltb, le-ltb, eq-eqb, ne_eqb, eqb-true}
 use Rattle.std.proofs.lemmas.Bool.Decides.{nat_tests}
 use Rattle.std.proofs.lemmas.List.{map-append, append-nil, length-set, get_or-set_same, get_or-set_other}
-use Rattle.std.proofs.lemmas.List.Elements.{filter-append}
-use Rattle.std.proofs.lemmas.Nat.Bits.{bit_at_set_same, bit_at_set_other, bit_at_clear_same, bit_at_clear_other, bit_at-trailing_zeros, bit_at-zero}
-use Rattle.octree_model.specs.Numbers.{up_to, has, with_number}
+use Rattle.std.proofs.lemmas.List.Elements.{All-tail}
+use Rattle.octree_model.specs.Numbers.{up_to, has, with_number, ascending}
 use Rattle.octree_model.proofs.AscendingLaws.{with_number_before, with_number_at, with_number_behind, with_number_before_last, filter_next}
-use Rattle.octree_plain.specs.CellSets.{is_marked, marked_cells, set_bits}
 
--- ---- the numbers below n that pass a test
 -- tests that agree below n
 pub filter_same : (t t' : ℕ → Bool) (n : ℕ) → ((i : ℕ) → i < n → t' i ≡ t i) → filter t' (up_to n) ≡ filter t (up_to n)
 filter_same t t' zero h = refl
@@ -124,3 +119,10 @@ first_of_all m (k ∷ ks) h = with_number_before m k ks h.0
 
 pub filter_lowest : (t t' : ℕ → Bool) (b n : ℕ) → b < n → ((i : ℕ) → i < n → t i ≡ (nat_eq i b || t' i)) → ((i : ℕ) → i ≤ b → t' i ≡ false) → filter t (up_to n) ≡ b ∷ filter t' (up_to n)
 filter_lowest t t' b n l h low = filter_with t' t b n l h ∙ first_of_all b (filter t' (up_to n)) (filter_above t' b n low)
+
+-- the ascending list of numbers below n is that of the numbers below n that stand in the list
+pub ascending_by_filter : (n : ℕ) (ns : List ℕ) → All (λ k. k < n) ns → ascending ns ≡ filter (λ z. has z ns) (up_to n)
+ascending_by_filter n [] h = sym (filter_none (λ z. false) n (λ i l. refl))
+ascending_by_filter n (k ∷ ns) h =
+    ap (with_number k) (ascending_by_filter n ns (All-tail (λ m. m < n) k ns h))
+    ∙ sym (filter_with (λ z. has z ns) (λ z. has z (k ∷ ns)) k n (h 0 k (omega arith)) (λ i l. refl))

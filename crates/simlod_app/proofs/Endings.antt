@@ -1,0 +1,41 @@
+-- How a run ends.
+use Rattle.std.proofs.Common.{◌≡◌, ◌⊎◌, inl, inr, ℕ, List, Option, Result, Ok, Err, ap, ◌∙◌, sym, refl, subst}
+use Rattle.std.specs.Prelude.{Vec, vec_items, Global}
+use Rattle.cloud_io.specs.Counts.{Rose}
+use Rattle.run_report.specs.declared.fault.Fault.{Fault}
+use Rattle.run_report.specs.declared.fault.Fault.TheVariants as fault
+use Rattle.run_words.specs.Commands.{Text}
+use Rattle.simlod_app.specs.Dues.{IsDue}
+use Rattle.simlod_app.specs.Outcomes.{Outside, Tells, TellsFault, Refuses, Ends, IsComplete, ended_by}
+use Rattle.simlod_app.specs.Statuses.{status_of}
+use Rattle.simlod_app.specs.declared.status.Status.{Status}
+use Rattle.simlod_app.specs.declared.status.Status.TheVariants as ended
+
+refuses : (IsNext : Text → Type 0) (answer : Result (List ℕ) Fault) (old new : Outside) (f : Fault)
+    → IsDue (λ name. IsNext name × Rose old.faults new.faults) (Rose old.missing new.missing) answer f → new.out ≡ old.out → Tells old new f → Ends IsNext answer old new (status_of f)
+refuses IsNext answer old new fault.Memory due nothing tells = (nothing, tells)
+refuses IsNext answer old new fault.Output due nothing tells = absurd due
+refuses IsNext answer old new (fault.ReadFault name) due nothing tells = (name, due.0, due.1, nothing, tells)
+refuses IsNext answer old new (fault.NoFile name) due nothing tells = (record { fault = fault.NoFile name; is = due.1; status = refl; nothing = nothing; tells = tells }, due.0)
+refuses IsNext answer old new f due nothing tells = record { fault = f; is = due; status = refl; nothing = nothing; tells = tells }
+
+-- a run that is refused ends as its answer says
+pub ends_refused : (IsNext : Text → Type 0) (answer : Result (List ℕ) Fault) (old new : Outside) (f : Fault) (status : Status)
+    → IsDue (λ name. IsNext name × Rose old.faults new.faults) (Rose old.missing new.missing) answer f → new.out ≡ old.out
+    → TellsFault old.errors new.errors old.error_faults new.error_faults f status → Ends IsNext answer old new status
+ends_refused IsNext answer old new f status due nothing (inl told) = subst (λ (s : Status). Ends IsNext answer old new s) (sym told.1) (refuses IsNext answer old new f due nothing told.0)
+ends_refused IsNext answer old new f status due nothing (inr told) = subst (λ (s : Status). Ends IsNext answer old new s) (sym told.1) (nothing, told.0)
+
+of_refusal : (answer : Result (List ℕ) Fault) (old new : Outside) (status : Status) → Refuses answer old new status → status ≡ ended_by answer
+of_refusal answer old new status h = sym h.status ∙ ap ended_by (sym h.is)
+
+-- how a run ends says its status, where no call failed
+pub completes : (IsNext : Text → Type 0) (answer : Result (List ℕ) Fault) (old new : Outside) (status : Status) → Ends IsNext answer old new status → IsComplete answer old new status
+completes IsNext answer old new ended.Ok h read wrote = inr (ap ended_by (sym h.1))
+completes IsNext answer old new ended.OutputFault h read wrote = absurd (wrote h.3)
+completes IsNext answer old new ended.ReadFault h read wrote = absurd (read h.2)
+completes IsNext answer old new ended.NoFile h read wrote = inr (of_refusal answer old new ended.NoFile h.0)
+completes IsNext answer old new ended.Memory h read wrote = inl refl
+completes IsNext answer old new ended.Usage h read wrote = inr (of_refusal answer old new ended.Usage h)
+completes IsNext answer old new ended.BadInput h read wrote = inr (of_refusal answer old new ended.BadInput h)
+completes IsNext answer old new ended.Limit h read wrote = inr (of_refusal answer old new ended.Limit h)

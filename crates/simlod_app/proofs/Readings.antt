@@ -1,0 +1,114 @@
+-- Files read one after the other.
+use Rattle.std.proofs.Common.{◌≡◌, ℕ, ◌+◌, ◌<◌, List, [], ◌∷◌, ◌++◌, map, length, take, drop, Some, None, Option, Result, Ok, Err, ap, ◌∙◌, sym, refl, arith}
+use Rattle.std.specs.Prelude.{IsOk}
+use Rattle.std.specs.List.{All}
+use Rattle.std.proofs.lemmas.List.{map-append, append-nil}
+use Rattle.std.proofs.lemmas.List.Elements.{All-nil, All-append, All-cons}
+use Rattle.cloud_io.specs.Files.{Folder}
+use Rattle.cube_math.specs.Points.{PointValue}
+use Rattle.run_report.specs.declared.fault.Fault.{Fault}
+use Rattle.run_words.specs.Commands.{Text}
+use Rattle.xyz_points.specs.Reading.{and_then, all_or_first_error}
+use Rattle.simlod_app.specs.Dues.{IsDue}
+use Rattle.simlod_app.specs.Outcomes.{AreSources, IsSource, IsReached}
+use Rattle.simlod_app.specs.Runs.{Source, cloud_of, cloud_in, clouds_of}
+use Rattle.simlod_app.proofs.DueLaws.{due_through}
+
+-- what inputs tell of a file, or nothing where they tell none
+pub content_of : Option Folder → Text → Option (List ℕ)
+content_of None name = None
+content_of (Some folder) name = folder name
+
+is_content : (told : Option Folder) (name : Text) → IsSource told name (content_of told name)
+unfolding content_of
+is_content None name = tt
+is_content (Some folder) name = refl
+
+-- files of these names
+pub sources : Option Folder → List Text → List Source
+sources told names = map (λ name. (name, content_of told name)) names
+
+pub are_sources : (told : Option Folder) (names : List Text) → AreSources told names (sources told names)
+unfolding sources
+are_sources told [] = record { named = refl; told = All-nil (λ file. IsSource told file.0 file.1) }
+are_sources told (name ∷ names) =
+    let rest = are_sources told names in
+    record {
+      named = ap (λ (ns : List Text). name ∷ ns) rest.named;
+      told = All-cons (λ file. IsSource told file.0 file.1) (name, content_of told name) (sources told names) (is_content told name) rest.told;
+    }
+
+-- files behind others
+joined_sources : (told : Option Folder) (names more : List Text) (files others : List Source) → AreSources told names files → AreSources told more others → AreSources told (names ++ more) (files ++ others)
+joined_sources told names more files others first second = record {
+  named = map-append (λ file. file.0) files others ∙ ap (λ ns. ns ++ map (λ file. file.0) others) first.named ∙ ap (λ ns. names ++ ns) second.named;
+  told = All-append (λ file. IsSource told file.0 file.1) files others first.told second.told;
+}
+
+one_source : (told : Option Folder) (name : Text) (content : Option (List ℕ)) → IsSource told name content → AreSources told (name ∷ []) ((name, content) ∷ [])
+one_source told name content is = record {
+  named = refl;
+  told = All-cons (λ file. IsSource told file.0 file.1) (name, content) [] is (All-nil (λ file. IsSource told file.0 file.1));
+}
+
+alone : {X : Type 0} (r : Result (List X) Fault) → r ≡ and_then r (λ ys. Ok ([] ++ ys))
+alone (Ok ys) = refl
+alone (Err e) = refl
+
+in_front : {X : Type 0} (x : X) (a b : Result (List X) Fault)
+    → and_then (and_then a (λ xs. and_then b (λ ys. Ok (xs ++ ys)))) (λ xs. Ok (x ∷ xs)) ≡ and_then (and_then a (λ xs. Ok (x ∷ xs))) (λ xs. and_then b (λ ys. Ok (xs ++ ys)))
+in_front x (Ok xs) (Ok ys) = refl
+in_front x (Ok xs) (Err e) = refl
+in_front x (Err e) b = refl
+
+-- results behind others
+all_or_first_error-append : {X : Type 0} (results more : List (Result X Fault))
+    → all_or_first_error (results ++ more) ≡ and_then (all_or_first_error results) (λ xs. and_then (all_or_first_error more) (λ ys. Ok (xs ++ ys)))
+all_or_first_error-append [] more = alone (all_or_first_error more)
+all_or_first_error-append (Ok x ∷ results) more =
+    ap (λ r. and_then r (λ xs. Ok (x ∷ xs))) (all_or_first_error-append results more) ∙ in_front x (all_or_first_error results) (all_or_first_error more)
+all_or_first_error-append (Err e ∷ results) more = refl
+
+-- files behind others that have points
+clouds_behind : (decimals : ℕ) (files others : List Source) (clouds : List (List PointValue)) → clouds_of decimals files ≡ Ok clouds
+    → clouds_of decimals (files ++ others) ≡ and_then (clouds_of decimals others) (λ more. Ok (clouds ++ more))
+clouds_behind decimals files others clouds read =
+    ap all_or_first_error (map-append (cloud_of decimals) files others) ∙ all_or_first_error-append (map (cloud_of decimals) files) (map (cloud_of decimals) others)
+    ∙ ap (λ r. and_then r (λ xs. and_then (clouds_of decimals others) (λ ys. Ok (xs ++ ys)))) read
+
+-- the first so many files were read
+pub record AreRead (told : Option Folder) (names : List Text) (decimals : ℕ) (clouds : List (List PointValue)) : Type 0 where
+  pub files : List Source
+  pub told : AreSources told names files
+  pub read : clouds_of decimals files ≡ Ok clouds
+
+pub none_read : (told : Option Folder) (decimals : ℕ) → AreRead told [] decimals []
+none_read told decimals = record { files = []; told = record { named = refl; told = All-nil (λ file. IsSource told file.0 file.1) }; read = refl }
+
+-- one file more
+pub one_more_read : (told : Option Folder) (names : List Text) (decimals : ℕ) (clouds : List (List PointValue)) (name : Text) (content : Option (List ℕ)) (cloud : List PointValue)
+    → AreRead told names decimals clouds → IsSource told name content → cloud_in decimals name content ≡ Ok cloud → AreRead told (names ++ name ∷ []) decimals (clouds ++ cloud ∷ [])
+one_more_read told names decimals clouds name content cloud before is read = record {
+  files = before.files ++ (name, content) ∷ [];
+  told = joined_sources told names (name ∷ []) before.files ((name, content) ∷ []) before.told (one_source told name content is);
+  read = clouds_behind decimals before.files ((name, content) ∷ []) clouds before.read ∙ ap (λ r. and_then (all_or_first_error (r ∷ [])) (λ more. Ok (clouds ++ more))) read;
+}
+
+-- the refusal of the file that is read next is that of all files
+pub refused_next : (told : Option Folder) (names more : List Text) (decimals : ℕ) (clouds : List (List PointValue)) (name : Text) (content : Option (List ℕ)) (fails fails' misses misses' : Type 0) (f : Fault)
+    → AreRead told names decimals clouds → IsSource told name content → (fails → fails') → (misses → misses')
+    → IsDue (λ failed. (failed ≡ name) × fails) misses (cloud_in decimals name content) f
+    → (files : List Source) × AreSources told (names ++ name ∷ more) files × IsDue (λ failed. IsReached decimals files failed × fails') misses' (clouds_of decimals files) f
+refused_next told names more decimals clouds name content fails fails' misses misses' f before is failing missing due =
+    let behind : List Source = (name, content) ∷ sources told more in
+    let files : List Source = before.files ++ behind in
+    let are : AreSources told (name ∷ more) behind = joined_sources told (name ∷ []) more ((name, content) ∷ []) (sources told more) (one_source told name content is) (are_sources told more) in
+    let reached : (failed : Text) → (failed ≡ name) × fails → IsReached decimals files failed × fails' = λ failed h.
+    (record { before = before.files; content = content; after = sources told more; stands = ap (λ n. before.files ++ (n, content) ∷ sources told more) (sym h.0); read = read_ok _ clouds before.read }, failing h.1) in
+    let refused : (e : Fault) → cloud_in decimals name content ≡ Err e → clouds_of decimals files ≡ Err e = λ e h.
+    clouds_behind decimals before.files behind clouds before.read ∙ ap (λ r. and_then (all_or_first_error (r ∷ map (cloud_of decimals) (sources told more))) (λ more. Ok (clouds ++ more))) h in
+    (files, joined_sources told names (name ∷ more) before.files behind before.told are, due_through (λ failed. (failed ≡ name) × fails) (λ failed. IsReached decimals files failed × fails') misses misses' (cloud_in decimals name content) (clouds_of decimals files) f reached missing refused due)
+  where
+    read_ok : (r : Result (List (List PointValue)) Fault) (xs : List (List PointValue)) → r ≡ Ok xs → IsOk r
+    read_ok (Ok ys) xs e = tt
+    read_ok (Err f) xs e = cc

@@ -1,9 +1,14 @@
 -- The job of the words, and what is due of it.
-use Rattle.std.proofs.Common.{◌≡◌, ◌⊎◌, inl, inr, ℕ, List, [], Option, Result, Ok, Err, ap, ◌∙◌, sym, refl, subst}
-use Rattle.std.specs.Prelude.{Vec, vec_items, Global}
+use Rattle.std.proofs.Common.{◌≡◌, ◌⊎◌, inl, inr, ℕ, List, [], Option, Result, Ok, Err, ap, ◌∙◌, sym, refl, subst, Global}
+use Rattle.std.specs.Prelude.{Vec, vec_items, Bool, true, false, not, cond, Some, None, position, if◌then◌else◌, ◌+◌}
+use Rattle.std.specs.List.{list_any}
+use Rattle.std.specs.Option.{option_map_or}
 use Rattle.cloud_io.specs.Files.{Folder}
 use Rattle.run_report.specs.declared.fault.Fault.{Fault}
-use Rattle.run_words.specs.Commands.{Text}
+use Rattle.run_report.specs.declared.fault.Fault.TheVariants.{Command, Word, Options}
+use Rattle.run_words.specs.Commands.{Text, is_same}
+use Rattle.run_words.specs.declared.command.CommandName.{CommandName}
+use Rattle.run_words.specs.declared.command.CommandName.TheVariants.{Nodes, Bounds, Image, Replay, Demo, Live}
 use Rattle.run_words.specs.Jobs.{job}
 use Rattle.run_words.specs.Values.{JobValue}
 use Rattle.run_words.specs.declared.words.WordsFault.{WordsFault}
@@ -11,7 +16,7 @@ use Rattle.run_words.specs.declared.words.WordsFault.TheVariants as words
 use Rattle.simlod_app.specs.Dues.{IsDue, GivesOver, Gives}
 use Rattle.simlod_app.specs.Outcomes.{AreSources, AreFilesOf, IsReached, IsNextOf}
 use Rattle.simlod_app.specs.RunFaults.{words_fault, IsOrMemory}
-use Rattle.simlod_app.specs.Runs.{Source, ◌>>=◌, of_words, run_here, job_here, clouds_of, listing, answer}
+use Rattle.simlod_app.specs.Runs.{Source, ◌>>=◌, is_las, is_limit, of_words, run_here, job_here, job_answer, answer}
 use Rattle.simlod_app.proofs.DueLaws.{due_first, due_apart, gives_through, gives_next}
 use Rattle.simlod_app.proofs.Readings.{sources, are_sources}
 
@@ -27,6 +32,34 @@ due_of_words due words.Memory is = tt
 due_in_place : (due : Result JobValue Fault) (f g : Fault) → f ≡ g → IsDue (λ name. ⊥) ⊥ due g → IsDue (λ name. ⊥) ⊥ due f
 due_in_place due f g same h = subst (λ (e : Fault). IsDue (λ name. ⊥) ⊥ due e) (sym same) h
 
+not_nodes : (command : CommandName) → (command ≡ Nodes → ⊥) → not (is_same command Nodes) ≡ true
+not_nodes Nodes other = absurd (other refl)
+not_nodes Bounds other = refl
+not_nodes Image other = refl
+not_nodes Replay other = refl
+not_nodes Demo other = refl
+not_nodes Live other = refl
+
+-- a job that is not run here
+pub other_command : (ws : List Text) (j : JobValue) → (j.command ≡ Nodes → ⊥) → run_here ws j ≡ Err Command
+unfolding run_here
+other_command ws j other = rw (not_nodes j.command other) refl
+
+is_nodes : (command : CommandName) → command ≡ Nodes → not (is_same command Nodes) ≡ false
+is_nodes command is = ap (λ c. not (is_same c Nodes)) is
+
+pub las_refused : (ws : List Text) (j : JobValue) (at : ℕ) → j.command ≡ Nodes → position (λ word. is_las word) ws ≡ Some at → run_here ws j ≡ Err (Word (at + 1))
+unfolding run_here
+las_refused ws j at nodes las = rw (is_nodes j.command nodes, las) refl
+
+pub limit_refused : (ws : List Text) (j : JobValue) → j.command ≡ Nodes → position (λ word. is_las word) ws ≡ None → list_any (λ word. is_limit word) ws ≡ true → run_here ws j ≡ Err Options
+unfolding run_here
+limit_refused ws j nodes las limit = rw (is_nodes j.command nodes, las, limit) refl
+
+pub runs_here : (ws : List Text) (j : JobValue) → j.command ≡ Nodes → position (λ word. is_las word) ws ≡ None → list_any (λ word. is_limit word) ws ≡ false → run_here ws j ≡ Ok j
+unfolding run_here
+runs_here ws j nodes las limit = rw (is_nodes j.command nodes, las, limit) refl
+
 -- words that are no job
 pub no_job : (ws : List Text) (e : WordsFault) (f : Fault) → (e ≡ words.Memory) ⊎ (job ws ≡ Err e) → IsOrMemory (words_fault e) f → IsDue (λ name. ⊥) ⊥ (job_here ws) f
 unfolding job_here
@@ -39,8 +72,13 @@ pub a_job : (ws : List Text) (j : JobValue) (found : Result JobValue Fault) → 
 unfolding job_here
 a_job ws j found is h = gives_next (λ name. ⊥) ⊥ (λ k. k) (of_words (job ws)) j (run_here ws) found (ap of_words is) h
 
+value_or : {X : Type 0} → X → Result X Fault → X
+value_or d (Ok x) = x
+value_or d (Err f) = d
+
 one_value : {X : Type 0} (x y : X) (r : Result X Fault) → r ≡ Ok x → r ≡ Ok y → x ≡ y
-one_value x y r a b = let e : Ok {X} {Fault} x ≡ Ok y = sym a ∙ b in cc
+unfolding value_or
+one_value x y r a b = ap (value_or x) (sym a ∙ b)
 
 -- the files of a job are those of its words
 pub files_of_job : (told : Option Folder) (ws : List Text) (j : JobValue) (files : List Source) → job_here ws ≡ Ok j → AreSources told j.files files → AreFilesOf told ws files
@@ -64,9 +102,9 @@ refused_words told ws fails misses f h =
 
 -- what is due of a job is due of its words
 pub answer_of_job : (ws : List Text) (j : JobValue) (files : List Source) (fails misses : Type 0) (found : Result (Vec ℕ Global) Fault) → job_here ws ≡ Ok j
-    → GivesOver (λ name. IsReached j.decimals files name × fails) misses vec_items found (clouds_of j.decimals files >>= listing j)
+    → GivesOver (λ name. IsReached j.decimals files name × fails) misses vec_items found (job_answer j files)
     → GivesOver (λ name. IsNextOf ws files name × fails) misses vec_items found (answer ws files)
 answer_of_job ws j files fails misses found is h =
-    gives_next (λ name. IsNextOf ws files name × fails) misses vec_items (job_here ws) j (λ k. clouds_of k.decimals files >>= listing k) found is
+    gives_next (λ name. IsNextOf ws files name × fails) misses vec_items (job_here ws) j (λ k. job_answer k files) found is
     (gives_through (λ name. IsReached j.decimals files name × fails) (λ name. IsNextOf ws files name × fails) misses misses vec_items found
-    (clouds_of j.decimals files >>= listing j) (clouds_of j.decimals files >>= listing j) (λ name r. ((j, is, r.0), r.1)) (λ m. m) refl h)
+    (job_answer j files) (job_answer j files) (λ name r. ((j, is, r.0), r.1)) (λ m. m) refl h)

@@ -10,7 +10,7 @@ use Rattle.std.proofs.lemmas.Iterator.Adapters.{position_from-zero}
 use Rattle.std.proofs.lemmas.List.{map-append, length-map, length-take, length-take-le, drop_all, take_min}
 use Rattle.std.proofs.lemmas.List.Elements.{All-nil, All-append, All-cons, All-tail}
 use Rattle.std.proofs.lemmas.Nat.{div-mul-add, mod-mul-add}
-use Rattle.std.proofs.Math.Seq.{take-add, take-length}
+use Rattle.std.proofs.Math.Seq.{take-add, take-length, take-nil}
 use Rattle.cube_math.specs.Points.{PointValue}
 use Rattle.cube_math.specs.Cubes.{CubeValue, contains}
 use Rattle.cube_math.specs.Refusals.{first_outside}
@@ -52,6 +52,10 @@ outside-append n cube (x ∷ xs) ys =
 abbrev pub row_at : ℕ → ℕ → ℕ → RefusedRow
 row_at n size at = record { input = n + at / size; cause = Outside (at % size) }
 
+-- the row of the point at a place of the batch m behind the batch n
+abbrev pub row_in : ℕ → ℕ → ℕ → RefusedRow
+row_in n m at = record { input = n + m; cause = Outside at }
+
 map_or : (f : ℕ → RefusedRow) (a b : Option ℕ) → option_map f (option_or a b) ≡ option_or (option_map f a) (option_map f b)
 map_or f None b = refl
 map_or f (Some x) b = refl
@@ -68,7 +72,10 @@ position-append p k (x ∷ xs) ys =
     ap (cond (p x) (Some k)) (position-append p (k + 1) xs ys ∙ ap (λ n. option_or (position_from p (k + 1) xs) (position_from p n ys)) more)
     ∙ or_if (p x) k (position_from p (k + 1) xs) (position_from p (k + length (x ∷ xs)) ys)
 
-in_piece : (n m k size : ℕ) → k < size → row_at n size (m * size + k) ≡ record { input = n + m; cause = Outside k }
+position-append_first : (p : PointValue → Bool) (xs ys : List PointValue) → position_from p 0 (xs ++ ys) ≡ option_or (position_from p 0 xs) (position_from p (length xs) ys)
+position-append_first p xs ys = let same : 0 + length xs ≡ length xs = omega arith in position-append p 0 xs ys ∙ ap (λ n. option_or (position_from p 0 xs) (position_from p n ys)) same
+
+in_piece : (n m k size : ℕ) → k < size → row_at n size (m * size + k) ≡ row_in n m k
 in_piece n m k size l = rw (div-mul-add m size k l, mod-mul-add m size k l) refl
 
 same_if : (b : Bool) (f g : ℕ → RefusedRow) (i j : ℕ) (x y : Option ℕ) → f i ≡ g j → option_map f x ≡ option_map g y → option_map f (cond b (Some i) x) ≡ option_map g (cond b (Some j) y)
@@ -77,11 +84,11 @@ same_if false f g i j x y here rest = rest
 
 -- a place in the cloud, and the same place in its piece
 place_in_piece : (p : PointValue → Bool) (n m k size : ℕ) (ys : List PointValue) → k + length ys ≤ size
-    → option_map (row_at n size) (position_from p (m * size + k) ys) ≡ option_map (λ at. record { input = n + m; cause = Outside at }) (position_from p k ys)
+    → option_map (row_at n size) (position_from p (m * size + k) ys) ≡ option_map (row_in n m) (position_from p k ys)
 place_in_piece p n m k size [] l = refl
 place_in_piece p n m k size (y ∷ ys) l =
     let next : m * size + k + 1 ≡ m * size + (k + 1) = omega arith in
-    same_if (p y) (row_at n size) (λ at. record { input = n + m; cause = Outside at }) (m * size + k) k (position_from p (m * size + k + 1) ys) (position_from p (k + 1) ys)
+    same_if (p y) (row_at n size) (row_in n m) (m * size + k) k (position_from p (m * size + k + 1) ys) (position_from p (k + 1) ys)
     (in_piece n m k size (omega arith))
     (ap (λ i. option_map (row_at n size) (position_from p i ys)) next ∙ place_in_piece p n m (k + 1) size ys (omega arith))
 
@@ -98,11 +105,11 @@ length-piece size cloud k = omega (arith, length-take size (drop (k * size) clou
 
 -- the places of a piece, counted from those before it
 piece_places : (p : PointValue → Bool) (n size m : ℕ) (cloud : List PointValue)
-    → option_map (row_at n size) (position_from p (length (take (m * size) cloud)) (piece size cloud m)) ≡ option_map (λ at. record { input = n + m; cause = Outside at }) (position_from p 0 (piece size cloud m))
+    → option_map (row_at n size) (position_from p (length (take (m * size) cloud)) (piece size cloud m)) ≡ option_map (row_in n m) (position_from p 0 (piece size cloud m))
 piece_places p n size m cloud = elim (cases_lt (length cloud) (m * size)) [
   | inl past ↦
-      let none : drop (m * size) cloud ≡ [] = drop_all (m * size) cloud (omega arith) in
-      rw none refl
+      let none : piece size cloud m ≡ [] = ap (take size) (drop_all (m * size) cloud (omega arith)) ∙ take-nil size in
+      ap (λ qs. option_map (row_at n size) (position_from p (length (take (m * size) cloud)) qs)) none ∙ sym (ap (λ qs. option_map (row_in n m) (position_from p 0 qs)) none)
   | inr within ↦
       let start : length (take (m * size) cloud) ≡ m * size + 0 = length-take-le (m * size) cloud within ∙ omega arith in
       ap (λ i. option_map (row_at n size) (position_from p i (piece size cloud m))) start ∙ place_in_piece p n m 0 size (piece size cloud m) (omega (arith, length-piece size cloud m))
@@ -122,9 +129,9 @@ pieces_places n size (suc m) cube cloud =
     ∙ ap (λ o. option_or o (outside_from (n + m) cube (piece size cloud m ∷ []))) (pieces_places n size m cube cloud)
     ∙ ap (option_or (option_map (row_at n size) (position_from p 0 (take (m * size) cloud)))) (
     first_of (outside_row cube (n + m, piece size cloud m)) [] ∙ or_none (outside_row cube (n + m, piece size cloud m))
-    ∙ ap (option_map (λ at. record { input = n + m; cause = Outside at })) (position_from-zero p (piece size cloud m)) ∙ sym (piece_places p n size m cloud))
+    ∙ ap (option_map (row_in n m)) (position_from-zero p (piece size cloud m)) ∙ sym (piece_places p n size m cloud))
     ∙ sym (map_or (row_at n size) (position_from p 0 (take (m * size) cloud)) (position_from p (length (take (m * size) cloud)) (piece size cloud m)))
-    ∙ ap (option_map (row_at n size)) (sym (position-append p 0 (take (m * size) cloud) (piece size cloud m)))
+    ∙ ap (option_map (row_at n size)) (sym (position-append_first p (take (m * size) cloud) (piece size cloud m)))
     ∙ ap (λ qs. option_map (row_at n size) (position_from p 0 qs)) (sym (ap (λ k. take k cloud) more ∙ take-add (m * size) size cloud))
 
 -- the first refusal of a cloud's pieces is that of its first point outside

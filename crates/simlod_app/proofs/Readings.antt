@@ -1,8 +1,10 @@
 -- Files read one after the other.
-use Rattle.std.proofs.Common.{◌≡◌, ℕ, ◌+◌, ◌<◌, List, [], ◌∷◌, ◌++◌, map, length, take, drop, Some, None, Option, Result, Ok, Err, ap, ◌∙◌, sym, refl, arith}
-use Rattle.std.specs.Prelude.{IsOk}
+use Rattle.std.proofs.Common.{◌≡◌, ℕ, suc, ◌+◌, ◌<◌, ◌≤◌, get_or, subst, String, Global, List, [], ◌∷◌, ◌++◌, map, length, take, drop, Some, None, Option, Result, Ok, Err, ap, ◌∙◌, sym, refl, arith}
+use Rattle.std.specs.Prelude.{IsOk, string_bytes}
 use Rattle.std.specs.List.{All}
-use Rattle.std.proofs.lemmas.List.{map-append, append-nil}
+use Rattle.std.proofs.lemmas.List.{map-append, take-append-drop, take_more}
+use Rattle.std.proofs.Math.Seq.{drop-cons}
+use Rattle.cloud_io.specs.Counts.{Rose}
 use Rattle.std.proofs.lemmas.List.Elements.{All-nil, All-append, All-cons}
 use Rattle.cloud_io.specs.Files.{Folder}
 use Rattle.cube_math.specs.Points.{PointValue}
@@ -19,7 +21,7 @@ pub content_of : Option Folder → Text → Option (List ℕ)
 content_of None name = None
 content_of (Some folder) name = folder name
 
-is_content : (told : Option Folder) (name : Text) → IsSource told name (content_of told name)
+pub is_content : (told : Option Folder) (name : Text) → IsSource told name (content_of told name)
 unfolding content_of
 is_content None name = tt
 is_content (Some folder) name = refl
@@ -30,25 +32,25 @@ sources told names = map (λ name. (name, content_of told name)) names
 
 pub are_sources : (told : Option Folder) (names : List Text) → AreSources told names (sources told names)
 unfolding sources
-are_sources told [] = record { named = refl; told = All-nil (λ file. IsSource told file.0 file.1) }
+are_sources told [] = record { named = refl; have = All-nil (λ file. IsSource told file.0 file.1) }
 are_sources told (name ∷ names) =
     let rest = are_sources told names in
     record {
       named = ap (λ (ns : List Text). name ∷ ns) rest.named;
-      told = All-cons (λ file. IsSource told file.0 file.1) (name, content_of told name) (sources told names) (is_content told name) rest.told;
+      have = All-cons (λ file. IsSource told file.0 file.1) (name, content_of told name) (sources told names) (is_content told name) rest.have;
     }
 
 -- files behind others
 joined_sources : (told : Option Folder) (names more : List Text) (files others : List Source) → AreSources told names files → AreSources told more others → AreSources told (names ++ more) (files ++ others)
 joined_sources told names more files others first second = record {
   named = map-append (λ file. file.0) files others ∙ ap (λ ns. ns ++ map (λ file. file.0) others) first.named ∙ ap (λ ns. names ++ ns) second.named;
-  told = All-append (λ file. IsSource told file.0 file.1) files others first.told second.told;
+  have = All-append (λ file. IsSource told file.0 file.1) files others first.have second.have;
 }
 
 one_source : (told : Option Folder) (name : Text) (content : Option (List ℕ)) → IsSource told name content → AreSources told (name ∷ []) ((name, content) ∷ [])
 one_source told name content is = record {
   named = refl;
-  told = All-cons (λ file. IsSource told file.0 file.1) (name, content) [] is (All-nil (λ file. IsSource told file.0 file.1));
+  have = All-cons (λ file. IsSource told file.0 file.1) (name, content) [] is (All-nil (λ file. IsSource told file.0 file.1));
 }
 
 alone : {X : Type 0} (r : Result (List X) Fault) → r ≡ and_then r (λ ys. Ok ([] ++ ys))
@@ -79,18 +81,18 @@ clouds_behind decimals files others clouds read =
 -- the first so many files were read
 pub record AreRead (told : Option Folder) (names : List Text) (decimals : ℕ) (clouds : List (List PointValue)) : Type 0 where
   pub files : List Source
-  pub told : AreSources told names files
+  pub are : AreSources told names files
   pub read : clouds_of decimals files ≡ Ok clouds
 
 pub none_read : (told : Option Folder) (decimals : ℕ) → AreRead told [] decimals []
-none_read told decimals = record { files = []; told = record { named = refl; told = All-nil (λ file. IsSource told file.0 file.1) }; read = refl }
+none_read told decimals = record { files = []; are = record { named = refl; have = All-nil (λ file. IsSource told file.0 file.1) }; read = refl }
 
 -- one file more
 pub one_more_read : (told : Option Folder) (names : List Text) (decimals : ℕ) (clouds : List (List PointValue)) (name : Text) (content : Option (List ℕ)) (cloud : List PointValue)
     → AreRead told names decimals clouds → IsSource told name content → cloud_in decimals name content ≡ Ok cloud → AreRead told (names ++ name ∷ []) decimals (clouds ++ cloud ∷ [])
 one_more_read told names decimals clouds name content cloud before is read = record {
   files = before.files ++ (name, content) ∷ [];
-  told = joined_sources told names (name ∷ []) before.files ((name, content) ∷ []) before.told (one_source told name content is);
+  are = joined_sources told names (name ∷ []) before.files ((name, content) ∷ []) before.are (one_source told name content is);
   read = clouds_behind decimals before.files ((name, content) ∷ []) clouds before.read ∙ ap (λ r. and_then (all_or_first_error (r ∷ [])) (λ more. Ok (clouds ++ more))) read;
 }
 
@@ -107,8 +109,32 @@ refused_next told names more decimals clouds name content fails fails' misses mi
     (record { before = before.files; content = content; after = sources told more; stands = ap (λ n. before.files ++ (n, content) ∷ sources told more) (sym h.0); read = read_ok _ clouds before.read }, failing h.1) in
     let refused : (e : Fault) → cloud_in decimals name content ≡ Err e → clouds_of decimals files ≡ Err e = λ e h.
     clouds_behind decimals before.files behind clouds before.read ∙ ap (λ r. and_then (all_or_first_error (r ∷ map (cloud_of decimals) (sources told more))) (λ more. Ok (clouds ++ more))) h in
-    (files, joined_sources told names (name ∷ more) before.files behind before.told are, due_through (λ failed. (failed ≡ name) × fails) (λ failed. IsReached decimals files failed × fails') misses misses' (cloud_in decimals name content) (clouds_of decimals files) f reached missing refused due)
+    (files, joined_sources told names (name ∷ more) before.files behind before.are are, due_through (λ failed. (failed ≡ name) × fails) (λ failed. IsReached decimals files failed × fails') misses misses' (cloud_in decimals name content) (clouds_of decimals files) f reached missing refused due)
   where
     read_ok : (r : Result (List (List PointValue)) Fault) (xs : List (List PointValue)) → r ≡ Ok xs → IsOk r
-    read_ok (Ok ys) xs e = tt
+    read_ok (Ok ys) xs e = refl
     read_ok (Err f) xs e = cc
+
+-- a name and those before and behind it
+pub split_names : (names : List (String Global)) (i : ℕ) (name : String Global) (text : Text) → i < length names → name ≡ get_or names i name → text ≡ string_bytes name
+    → map string_bytes names ≡ map string_bytes (take i names) ++ text ∷ map string_bytes (drop (i + 1) names)
+split_names names i name text l is read =
+    let after : suc i ≡ i + 1 = omega arith in
+    ap (map string_bytes) (sym (take-append-drop i names) ∙ ap (λ (rest : List (String Global)). take i names ++ rest) (
+    drop-cons names i name l ∙ ap (λ (n : String Global). n ∷ drop (suc i) names) (sym is) ∙ ap (λ (k : ℕ). name ∷ drop k names) after))
+    ∙ map-append string_bytes (take i names) (name ∷ drop (i + 1) names)
+    ∙ ap (λ (t : Text). map string_bytes (take i names) ++ t ∷ map string_bytes (drop (i + 1) names)) (sym read)
+
+pub one_name_more : (names : List (String Global)) (i : ℕ) (name : String Global) (text : Text) → i < length names → name ≡ get_or names i name → text ≡ string_bytes name
+    → map string_bytes (take (i + 1) names) ≡ map string_bytes (take i names) ++ text ∷ []
+one_name_more names i name text l is read =
+    ap (map string_bytes) (take_more names i name l ∙ ap (λ (n : String Global). take i names ++ n ∷ []) (sym is)) ∙ map-append string_bytes (take i names) (name ∷ [])
+    ∙ ap (λ (t : Text). map string_bytes (take i names) ++ t ∷ []) (sym read)
+
+-- a count that rose later rose
+pub rose_later : (old mid new : ℕ) → old ≤ mid → Rose mid new → Rose old new
+rose_later old mid new l h = omega arith
+
+-- what inputs that keep their files tell
+pub told_as_before : (told before : Option Folder) (name : Text) (content : Option (List ℕ)) → told ≡ before → IsSource told name content → IsSource before name content
+told_as_before told before name content same is = subst (λ (t : Option Folder). IsSource t name content) same is

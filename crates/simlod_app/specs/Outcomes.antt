@@ -35,7 +35,7 @@ IsSource told name content = IfSome told (λ folder. content ≡ folder name)
 -- the files of these names, as the inputs tell them
 pub record AreSources (told : Option Folder) (names : List Text) (files : List Source) : Type 0 where
   pub named : map (λ file. file.0) files ≡ names
-  pub told : All (λ file. IsSource told file.0 file.1) files
+  pub have : All (λ file. IsSource told file.0 file.1) files
 
 -- the files of the job of the words
 abbrev pub AreFilesOf : Option Folder → List Text → List Source → Type 0
@@ -65,7 +65,7 @@ Tells old new fault = TellsLine old.errors new.errors old.error_faults new.error
 pub record Refuses (answer : Result (List ℕ) Fault) (old new : Outside) (status : Status) : Type 0 where
   pub fault : Fault
   pub is : answer ≡ Err fault
-  pub status : status_of fault ≡ status
+  pub accounts : status_of fault ≡ status
   pub nothing : new.out ≡ old.out
   pub tells : Tells old new fault
 

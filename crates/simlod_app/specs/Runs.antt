@@ -95,13 +95,20 @@ listing_in j clouds cube =
     option_map_or (λ row. Err (Batch row)) (first_outside_row cube (batches j.batch clouds))
     (Ok (nodes_text j.voxels (octree j.leaf cube (joined clouds)) cube))
 
--- the listing of a job with these clouds
+-- a listing in the root cube, if there is one
+abbrev pub listing_round : JobValue → List (List PointValue) → Result CubeValue Fault → Result (List ℕ) Fault
+listing_round j clouds cube = cube >>= listing_in j clouds
+
+-- the listing of these clouds
 abbrev pub listing : JobValue → List (List PointValue) → Result (List ℕ) Fault
-listing j clouds = cube_of j.cube (joined clouds) >>= listing_in j clouds
+listing j clouds = listing_round j clouds (cube_of j.cube (joined clouds))
+
+-- what a job over these files is to answer
+abbrev pub job_answer : JobValue → List Source → Result (List ℕ) Fault
+job_answer j files = clouds_of j.decimals files >>= listing j
 
 -- what a run of these words over these files is to answer
 abbrev pub answer : List Text → List Source → Result (List ℕ) Fault
 answer words files = do
   j ← job_here words
-  clouds ← clouds_of j.decimals files
-  listing j clouds
+  job_answer j files

@@ -9,7 +9,7 @@ ghost use Rattle.run_words.specs.Values.{HasRanges};
 ghost use Rattle.simlod_app.specs.Batches.{batches, first_outside_row};
 ghost use Rattle.simlod_app.specs.Dues.{Gives, GivesOver};
 ghost use Rattle.simlod_app.specs.Outcomes.{AreSources, IsReached};
-ghost use Rattle.simlod_app.specs.Runs.{Source, clouds_of, listing, listing_in, cube_of, ◌>>=◌};
+ghost use Rattle.simlod_app.specs.Runs.{Source, cube_of, job_answer, listing, listing_in, listing_round};
 
 use crate::scan::{join, read_clouds};
 use cloud_io::Inputs;
@@ -26,7 +26,7 @@ pub fn listing<I: Inputs>(alloc: Global, inputs: &mut I, job: &Job) -> Result<Ve
     ensures axis { IfErr result HasAxis }
     ensures gives { (files : List Source) × AreSources (I.files inputs.old) job.now.files files
         × GivesOver (λ name. IsReached job.now.decimals files name × Rose (I.faults inputs.old) (I.faults inputs.new)) (Rose (I.missing inputs.old) (I.missing inputs.new))
-          vec_items result (clouds_of job.now.decimals files >>= listing job.now) }
+          vec_items result (job_answer job.now files) }
 {
     let clouds = read_clouds(alloc, inputs, job.files.as_slice(), job.decimals)?;
     clouds_listing(alloc, clouds, job)
@@ -87,7 +87,7 @@ fn listing_in_fitted(alloc: Global, clouds: Vec<Vec<Point>>, job: &Job) -> Resul
     requires few { length (joined (map vec_items clouds.items)) < 2 ^ 32 }
     requires ranges { HasRanges job.now }
     ensures axis { IfErr result HasAxis }
-    ensures gives { Gives vec_items result (cube_of None (joined (map vec_items clouds.items)) >>= listing_in job.now (map vec_items clouds.items)) }
+    ensures gives { Gives vec_items result (listing_round job.now (map vec_items clouds.items) (cube_of None (joined (map vec_items clouds.items)))) }
 {
     let points = join(alloc, clouds)?;
     let cube = match fit_cube(points.as_slice()) {

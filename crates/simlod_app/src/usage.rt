@@ -70,7 +70,7 @@ fn ends_as(word: &str, end: &[u8; 4]) -> bool
 
 /// Whether a word sets a limit on nodes or points.
 fn has_limit(words: &[String]) -> bool
-    ensures { result ≡ list_any (λ word. is_limit word) (map string_bytes words.now) }
+    ensures { result ≡ list_any (λ word. is_limit (string_bytes word)) words.now }
 {
     words.iter().any(|word| is_limit(word.as_str()))
 }

@@ -1,0 +1,12 @@
+use Rattle.std.proofs.Common.{map, refl}
+use Rattle.std.specs.Prelude.{string_bytes}
+use Rattle.simlod_app.proofs.Endings.{run_refused, run_cut}
+use Rattle.simlod_app.proofs.plain.simlod_plain.Goals as goal
+
+pub returns-in-Err-clause-run : goal.returns-in-Err-clause-run
+returns-in-Err-clause-run g c = run_refused _ (map string_bytes c.args.words.now) _ _ c.in-Err.fault c.refuse.result c.in-Err.ensures.gives refl c.refuse.ensures
+
+pub returns-clause-run : goal.returns-clause-run
+returns-clause-run g c =
+    run_cut _ (map string_bytes c.args.words.now) _ _ c.in-Ok.text.items c.as_slice.result.now c.output_fault_line.result.now c.in-Ok.ensures.gives c.as_slice.ensures.value
+    c.in-Err-write_all.ensures.appends c.in-Err-write_all.ensures.cause.failed c.output_fault_line.ensures c.tell.ensures

@@ -1,5 +1,5 @@
 -- How the reading of a whole file ends.
-use Rattle.std.proofs.Common.{◌≡◌, ◌≤◌, ℕ, List, Option, Result, Ok, Err, ap, ◌∙◌}
+use Rattle.std.proofs.Common.{◌≡◌, ◌≤◌, inl, ℕ, List, Option, Result, Ok, Err, ap, ◌∙◌}
 use Rattle.std.specs.Prelude.{IsErrAnd}
 use Rattle.cloud_io.specs.Counts.{HasCauses}
 use Rattle.cloud_io.specs.Files.{Folder, Opened, SameElsewhere, AgreesWith}
@@ -21,7 +21,7 @@ told_unopened A files name most OpenMemory h = tt
 
 pub place_unopened : (A : Type 0) (old new : Opened) (name : List ℕ) (most : ℕ) (fault : OpenFault) → ((k : ℕ) → new k ≡ old k) → ReadsTo {A = A} old new name most (Err (read_fault fault))
 place_unopened A old new name most OpenNoFile same = same
-place_unopened A old new name most OpenFailed same = (0, λ k other. same k)
+place_unopened A old new name most OpenFailed same = inl same
 place_unopened A old new name most OpenMemory same = (0, λ k other. same k)
 
 pub causes_unopened : (T : Type 0) (faults faults' missing missing' : ℕ) (fault : OpenFault) → HasCauses {T = ℕ} faults faults' missing missing' OpenFailed OpenNoFile (Err fault) → HasCauses {T = T} faults faults' missing missing' Failed NoFile (Err (read_fault fault))

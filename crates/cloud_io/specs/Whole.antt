@@ -1,5 +1,5 @@
 -- Whole files: what reading one and writing one answer.
-use Rattle.std.specs.Prelude.{ℕ, ◌≡◌, ◌<◌, ◌≤◌, List, take, length, Option, Some, None, IfSome, IsSomeAnd, Result, Ok, Err, MatchResult, Vec, ⊤}
+use Rattle.std.specs.Prelude.{ℕ, ◌≡◌, ◌⊎◌, ◌<◌, ◌≤◌, List, take, length, Option, Some, None, IfSome, IsSomeAnd, Result, Ok, Err, MatchResult, Vec, ⊤}
 use Rattle.std.specs.Io.KnownBytes.{Appends}
 use Rattle.cloud_io.specs.Files.{Folder, Opened, SameElsewhere}
 use Rattle.cloud_io.specs.declared.faults.OpenFault.{OpenFault}
@@ -34,6 +34,11 @@ pub record OpensTo (old new : Opened) (name : List ℕ) (place : ℕ) : Type 0 w
 abbrev pub ChangesOne : Opened → Opened → Type 0
 ChangesOne old new = (file : ℕ) × SameElsewhere file old new
 
+-- no file was opened, or one of the name, of which no more than most bytes came
+abbrev pub StopsWithin : Opened → Opened → List ℕ → ℕ → Type 0
+StopsWithin old new name most =
+    ((k : ℕ) → new k ≡ old k) ⊎ ((place : ℕ) × (place ≤ most) × OpensTo old new name place)
+
 -- how far the opened file was read: at Ok as far as the bytes go, which are not too many; at TooLong,
 -- which tells the limit of this call, beyond it
 abbrev pub ReadsTo :
@@ -41,7 +46,7 @@ abbrev pub ReadsTo :
 ReadsTo old new name most (Ok bytes) =
     OpensTo old new name (length bytes.items) × (length bytes.items ≤ most)
 ReadsTo old new name most (Err NoFile) = (k : ℕ) → new k ≡ old k
-ReadsTo old new name most (Err Failed) = ChangesOne old new
+ReadsTo old new name most (Err Failed) = StopsWithin old new name most
 ReadsTo old new name most (Err (TooLong limit)) =
     (limit ≡ most) × ((place : ℕ) × (most < place) × OpensTo old new name place)
 ReadsTo old new name most (Err Memory) = ChangesOne old new

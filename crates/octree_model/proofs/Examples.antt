@@ -4,7 +4,7 @@ use Rattle.cube_math.specs.Points.{PointValue}
 use Rattle.cube_math.specs.Cubes.{CubeValue, far}
 use Rattle.octree_model.specs.Octree.{octree, octree_at}
 use Rattle.octree_model.specs.Voxels.{voxels}
-use Rattle.octree_model.specs.declared.tree.Tree.{Tree, Leaf, Inner}
+use Rattle.octree_model.specs.declared.tree.Tree.{Leaf, Inner}
 
 -- a point with a colour number
 abbrev point : ℕ → ℕ → ℕ → ℕ → PointValue

@@ -1,5 +1,5 @@
 -- The numbers below n.
-use Rattle.std.proofs.Common.{◌≡◌, ℕ, zero, suc, ◌+◌, ◌<◌, inl, inr, List, [], ◌∷◌, ◌++◌, map, length, get_or, refl, arith, ◌∙◌}
+use Rattle.std.proofs.Common.{◌≡◌, ℕ, zero, suc, ◌<◌, inl, inr, [], ◌∷◌, ◌++◌, map, length, get_or, refl, arith, ◌∙◌}
 use Rattle.std.proofs.lemmas.List.{map-append, get_or_append_left, get_or_push, length-map, length_push}
 use Rattle.std.proofs.lemmas.Bool.{cases_lt}
 use Rattle.octree_model.specs.Numbers.{up_to}

@@ -1,5 +1,5 @@
 -- Laws of the octree.
-use Rattle.std.proofs.Common.{◌≡◌, ℕ, zero, suc, ◌<◌, ◌≤◌, ◌⊎◌, inl, inr, List, [], ◌∷◌, map, length, ap, ◌∙◌, sym, refl, arith, IsTrue}
+use Rattle.std.proofs.Common.{◌≡◌, ℕ, zero, suc, ◌<◌, ◌≤◌, ◌⊎◌, inl, inr, List, [], ◌∷◌, map, length, ap, sym, refl, arith, IsTrue}
 use Rattle.std.specs.List.{All}
 use Rattle.std.proofs.lemmas.List.Elements.{filter_passes, All-tail}
 use Rattle.std.proofs.lemmas.Bool.{le-leb, lt-leb}
@@ -8,7 +8,7 @@ use Rattle.cube_math.specs.Cubes.{CubeValue, contains, child}
 use Rattle.octree_model.specs.Numbers.{up_to}
 use Rattle.octree_model.specs.Octree.{inside, octree_at}
 use Rattle.octree_model.specs.Voxels.{voxels}
-use Rattle.octree_model.specs.declared.tree.Tree.{Tree, Leaf, Inner}
+use Rattle.octree_model.specs.declared.tree.Tree.{Leaf, Inner}
 
 pub all_inside : (c : CubeValue) (ps : List PointValue) → All (λ p. IsTrue (contains c p)) ps → inside c ps ≡ ps
 all_inside c [] h = refl

@@ -1,7 +1,6 @@
 -- Lists of points that are the same bag have octrees that differ in the order of points in leaves alone.
-use Rattle.std.proofs.Common.{◌≡◌, ◌⊎◌, ℕ, zero, suc, ◌+◌, ◌%◌, ◌^◌, ◌<◌, ◌≤◌, inl, inr, Bool, true, false, ◌&&◌, ◌||◌, cond, List, [], ◌∷◌, ◌++◌, map, length, filter, min, sum, Some, None, Option, ap, ◌∙◌, sym, refl, arith, nat_eq, nat_lt, nat_le, count_by}
-use Rattle.std.proofs.lemmas.Bool.{cases_lt, cases_eq, lt-ltb, eq-eqb, eqb-true, lt-leb, le-leb}
-use Rattle.std.proofs.lemmas.Bool.Decides.{nat_tests}
+use Rattle.std.proofs.Common.{◌≡◌, ◌⊎◌, ℕ, zero, suc, ◌+◌, ◌%◌, ◌^◌, ◌<◌, ◌≤◌, inl, inr, Bool, true, false, ◌&&◌, ◌||◌, cond, List, [], ◌∷◌, map, length, filter, min, Some, ap, ◌∙◌, sym, refl, arith, nat_eq, nat_lt, count_by}
+use Rattle.std.proofs.lemmas.Bool.{cases_lt, lt-ltb, eq-eqb, eqb-true, lt-leb, le-leb}
 use Rattle.std.proofs.lemmas.List.Sums.{sum_by-append}
 use Rattle.std.proofs.lemmas.List.Elements.{All-nil, All-cons}
 use Rattle.std.specs.List.{All}
@@ -9,9 +8,9 @@ use Rattle.std.specs.Prelude.{unwrap_or}
 use Rattle.cube_math.specs.Points.{PointValue}
 use Rattle.cube_math.specs.Cubes.{CubeValue, contains, cell, key, child}
 use Rattle.octree_model.specs.Bags.{IsSameBag}
-use Rattle.octree_model.specs.Facts.{NodeFacts, FactsAt, facts_at, facts, children_facts, tree_facts, node_facts}
-use Rattle.octree_model.specs.Numbers.{up_to, has, with_number, ascending, least, lesser}
-use Rattle.octree_model.specs.Octree.{inside, octree_at, octree}
+use Rattle.octree_model.specs.Facts.{FactsAt, facts_at, tree_facts, node_facts}
+use Rattle.octree_model.specs.Numbers.{up_to, has, ascending, least, lesser}
+use Rattle.octree_model.specs.Octree.{inside, octree_at}
 use Rattle.octree_model.specs.Voxels.{VoxelValue, voxels, cell_keys, cell_colour}
 use Rattle.octree_model.specs.declared.tree.Tree.{Tree}
 use Rattle.octree_model.specs.declared.tree.Tree.TheOpen.{Tree-F}

@@ -162,19 +162,44 @@ fn a_failing_output_keeps_a_first_part(rt: HostRuntime) -> Result<(), Fail> {
 }
 
 #[test]
-fn a_failing_read_names_its_file(rt: HostRuntime) -> Result<(), Fail> {
+fn an_output_that_fails_at_any_byte_keeps_those_before(rt: HostRuntime) -> Result<(), Fail> {
     let alloc = rt.alloc();
-    for call in 1..4u64 {
+    let listing = "cube 0 0 0 7\nr leaf 0\nnodes 1 points 0\n".as_bytes();
+    assert_eq!(rt; listing.len(), 39);
+    for call in 1..40usize {
+        let mut outside = sound(alloc);
+        outside.piece = 1;
+        outside.out.push(call as u64)?;
+        let outcome = run_in(alloc, "nodes empty.xyz", &[("empty.xyz", "")], outside)?;
+        assert_eq!(rt; outcome.status, Status::OutputFault, "at {call}");
+        assert_eq!(rt; outcome.out.bytes(), &listing[..call - 1], "at {call}");
+        assert_eq!(rt; outcome.errors.bytes(), "simlod: output fault\n".as_bytes());
+    }
+    Ok(())
+}
+
+#[test]
+fn every_failing_call_names_its_file(rt: HostRuntime) -> Result<(), Fail> {
+    let alloc = rt.alloc();
+    let files = [("a.xyz", "0 0 0\n"), ("b.xyz", "1 0 0\n")];
+    // Each file is opened, read, and read again at its end.
+    for call in 1..7u64 {
         let mut outside = sound(alloc);
         outside.inputs.push(call)?;
-        let outcome = run_in(alloc, LINE, THREE, outside)?;
+        let outcome = run_in(alloc, "nodes a.xyz b.xyz", &files, outside)?;
+        let said = if call < 4 {
+            "simlod: read fault in a.xyz\n"
+        } else {
+            "simlod: read fault in b.xyz\n"
+        };
         assert_eq!(rt; outcome.status, Status::ReadFault, "at {call}");
-        assert_eq!(rt;
-            outcome.errors.bytes(),
-            "simlod: read fault in three.xyz\n".as_bytes()
-        );
+        assert_eq!(rt; outcome.errors.bytes(), said.as_bytes(), "at {call}");
         assert_eq!(rt; outcome.out.bytes().len(), 0);
     }
+    let mut outside = sound(alloc);
+    outside.inputs.push(7)?;
+    let outcome = run_in(alloc, "nodes a.xyz b.xyz", &files, outside)?;
+    assert_eq!(rt; outcome.status, Status::Ok, "after the last call");
     Ok(())
 }
 
@@ -185,6 +210,10 @@ fn a_failing_error_stream_changes_no_status(rt: HostRuntime) -> Result<(), Fail>
         ("nodes", Status::Usage),
         ("nodes four.xyz", Status::NoFile),
         ("nodes --decimals=0 --cube=0,0,0,7 three.xyz", Status::Limit),
+        (
+            "nodes --decimals=0 --leaf=2 three.xyz three.xyz",
+            Status::Ok,
+        ),
     ] {
         let mut outside = sound(alloc);
         outside.errors.push(1)?;

@@ -1,4 +1,4 @@
-use Rattle.std.proofs.Common.{arith, Global, ℕ, ◌+◌, ◌++◌, take, Some, ◌≡◌, ◌∙◌, ap, sym, refl, length}
+use Rattle.std.proofs.Common.{arith, inr, Global, ℕ, ◌+◌, ◌++◌, take, Some, ◌≡◌, ◌∙◌, ap, sym, refl, length}
 use Rattle.cloud_io.proofs.Endings.{err_is, told_unopened, place_unopened, causes_unopened, quiet_ok, quiet_memory, quiet_too_long, others_more}
 use Rattle.cloud_io.proofs.Prefixes.{begun_none, begun_more, begun_whole, begun_long, grown, stands_more}
 use Rattle.cloud_io.proofs.whole.read_all.Goals as goal
@@ -37,7 +37,15 @@ loop-bytes-init g c = record {
 pub returns-in_err-n-clause-place : goal.returns-in_err-n-clause-place
 returns-in_err-n-clause-place g c =
     rw (err_is _ _ c.from_residual-in_err-n.ensures.1)
-    (c.in_ok-file.file, λ k other. c.in_err-n.ensures.moves k ∙ c.loop-bytes.invariant.others k other)
+    (inr (
+      length c.loop-bytes.bytes.items,
+      c.loop-bytes.invariant.few,
+      record {
+        file = c.in_ok-file.file;
+        stands = c.in_err-n.ensures.moves c.in_ok-file.file ∙ c.loop-bytes.invariant.stands;
+        others = λ k other. c.in_err-n.ensures.moves k ∙ c.loop-bytes.invariant.others k other;
+      },
+    ))
 
 pub returns-in_err-n-clause-causes : goal.returns-in_err-n-clause-causes
 returns-in_err-n-clause-causes g c =

@@ -12,15 +12,19 @@ pub record FormatValue : Type 0 where
   pub least : ℕ
   pub rgb : Option ℕ
 
+-- a row of the versions
 abbrev version : ℕ → ℕ → VersionValue
 version m h = record { minor = m; header = h }
 
+-- a row of the formats
 abbrev format : ℕ → ℕ → Option ℕ → FormatValue
 format n l words = record { number = n; least = l; rgb = words }
 
+-- the versions
 abbrev pub versions : List VersionValue
 versions = version 2 227 ∷ version 3 235 ∷ version 4 375 ∷ []
 
+-- the point formats
 abbrev pub formats : List FormatValue
 formats =
     format 0 20 None

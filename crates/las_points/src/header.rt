@@ -12,6 +12,21 @@ use crate::reader::LasFault;
 /// number of points that came with version 1.4.
 const SHORTEST_HEADER: usize = 227;
 
+// Where the fields of the header stand.
+const MAJOR: usize = 24;
+
+const MINOR: usize = 25;
+
+const START: usize = 96;
+
+const FORMAT: usize = 104;
+
+const LENGTH: usize = 105;
+
+const COUNT: usize = 107;
+
+const LONG_COUNT: usize = 247;
+
 /// Where the records of the points stand in a file, and the words of red, green and blue in each.
 #[derive(Clone, Copy)]
 pub struct PointTable {
@@ -45,7 +60,7 @@ fn read_version(bytes: &[u8]) -> Result<Version, LasFault>
     if bytes.len() < SHORTEST_HEADER {
         return Err(LasFault::HeaderShort { have });
     }
-    let (major, minor) = (bytes[24], bytes[25]);
+    let (major, minor) = (bytes[MAJOR], bytes[MINOR]);
     let Some(version) = Version::new(major, minor) else {
         return Err(LasFault::Version { major, minor });
     };
@@ -62,9 +77,9 @@ fn read_count(bytes: &[u8], version: Version) -> u64
     ensures { result ≡ point_count bytes.now }
 {
     if version.minor == 4 {
-        u64_at(bytes, 247)
+        u64_at(bytes, LONG_COUNT)
     } else {
-        u64::from(u32_at(bytes, 107))
+        u64::from(u32_at(bytes, COUNT))
     }
 }
 
@@ -75,21 +90,21 @@ pub fn read_header(bytes: &[u8]) -> Result<PointTable, LasFault>
     ensures fault { IfErr result (λ fault. first_refusal bytes.now ≡ Some fault) }
 {
     let version = read_version(bytes)?;
-    let byte = bytes[104];
+    let byte = bytes[FORMAT];
     if byte >= 128 {
         return Err(LasFault::Compressed { byte });
     }
     let Some(format) = PointFormat::new(byte) else {
         return Err(LasFault::Format { byte });
     };
-    let length = u16_at(bytes, 105);
+    let length = u16_at(bytes, LENGTH);
     if length < format.least {
         return Err(LasFault::Length {
             have: length,
             need: format.least,
         });
     }
-    let offset = u32_at(bytes, 96);
+    let offset = u32_at(bytes, START);
     if offset < version.header {
         return Err(LasFault::Start {
             offset,

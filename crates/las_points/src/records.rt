@@ -11,6 +11,12 @@ use crate::reader::RgbByte;
 use cube_math::Point;
 use std::alloc::{AllocError, Global};
 
+/// Where in a record the high byte of the intensity stands.
+const GREY: usize = 13;
+
+/// Where in the header the scales and offsets stand.
+const FRAME: usize = 131;
+
 /// Where in a record the bytes of red, green and blue stand.
 #[derive(Clone, Copy)]
 struct ColourPlaces {
@@ -29,9 +35,9 @@ impl ColourPlaces {
     {
         let Some(words) = words else {
             return ColourPlaces {
-                red: 13,
-                green: 13,
-                blue: 13,
+                red: GREY,
+                green: GREY,
+                blue: GREY,
             };
         };
         let red = match rgb {
@@ -98,6 +104,6 @@ pub fn read_frame(bytes: &[u8]) -> [u8; 48]
     ensures { result ≡ frame bytes.now }
 {
     let mut kept = [0; 48];
-    kept.copy_from_slice(&bytes[131..179]);
+    kept.copy_from_slice(&bytes[FRAME..FRAME + 48]);
     kept
 }

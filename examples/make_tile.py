@@ -67,10 +67,10 @@ class Raster:
         self.numbers = bytearray(CELLS * CELLS)
         self.shades = [it % SHADES for it in rng.randbytes(CELLS * CELLS)]
         self.lay_fields()
+        self.fill_lake()
         self.lay_roads()
         self.plant_woods()
         self.build_houses()
-        self.fill_lake()
 
     def ground(self):
         """Waves of several lengths, exact at every twentieth cell and straight between."""
@@ -96,23 +96,30 @@ class Raster:
                 at = row * CELLS + left
                 self.numbers[at : at + 50] = bytes(number + it for it in self.shades[at : at + 50])
 
+    def fill_lake(self):
+        for at, height in enumerate(self.least):
+            if height < LAKE_LEVEL:
+                self.least[at], self.span[at] = LAKE_LEVEL, 2
+                self.numbers[at] = NUMBERS["lake"] + self.shades[at] // 4
+
     def lay_roads(self):
         for at in range(CELLS):
             for middle in (180, 520, 830):
                 bent = middle + int(25 * math.sin(at / 90 + middle))
                 for side in range(-3, 4):
-                    self.set(bent + side, at, "road", 0, 3)
-                    self.set(at, bent + side, "road", 0, 3)
+                    for cell in ((bent + side, at), (at, bent + side)):
+                        if self.is_open(*cell):
+                            self.set(*cell, "road", 0, 3)
 
     def set(self, column, row, name, above, span):
         """A cell of a kind, so far above the ground that is there."""
-        if 0 <= column < CELLS and 0 <= row < CELLS:
-            at = row * CELLS + column
-            self.least[at] += above
-            self.span[at] = span
-            self.numbers[at] = NUMBERS[name] + self.shades[at]
+        at = row * CELLS + column
+        self.least[at] += above
+        self.span[at] = span
+        self.numbers[at] = NUMBERS[name] + self.shades[at]
 
     def is_open(self, column, row):
+        """Whether a cell is within the tile, and meadow, field or ploughed."""
         inside = 0 <= column < CELLS and 0 <= row < CELLS
         return inside and self.numbers[row * CELLS + column] < NUMBERS["road"]
 
@@ -156,12 +163,6 @@ class Raster:
                 self.set(column, row, "wall", 0, height)
             else:
                 self.set(column, row, "roof" if ridge else "flat roof", height + ridge * edge, 4 + ridge)
-
-    def fill_lake(self):
-        for at, height in enumerate(self.least):
-            if height < LAKE_LEVEL:
-                self.least[at], self.span[at] = LAKE_LEVEL, 2
-                self.numbers[at] = NUMBERS["lake"] + self.shades[at] // 4
 
 
 def straight(exact):
@@ -241,6 +242,7 @@ def lines(points):
 
 
 def write_tile(name, points, layout):
+    """Writes the records, and then the header, which tells the least box round all points."""
     rng = random.Random(SEED)
     raster = Raster(rng)
     least, most, time = [2**31 - 1] * 3, [-(2**31)] * 3, 300_000.0

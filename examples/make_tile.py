@@ -78,7 +78,8 @@ class Raster:
         for length, height, count in ((60_000, 1_400, 4), (17_000, 420, 6), (5_000, 70, 8)):
             for _ in range(count):
                 turn, bend = rng.uniform(0, math.tau), math.tau / (length * rng.uniform(0.7, 1.3))
-                waves.append((height / math.sqrt(count), bend * math.cos(turn), bend * math.sin(turn), rng.uniform(0, math.tau)))
+                slope = bend * math.cos(turn), bend * math.sin(turn)
+                waves.append((height / math.sqrt(count), *slope, rng.uniform(0, math.tau)))
         places = [CELL * COARSE * it for it in range(CELLS // COARSE + 1)]
         exact = [[10_000 + sum(h * math.cos(u * x + v * y + w) for h, u, v, w in waves) for x in places] for y in places]
         rows = [straight(row) for row in exact]
@@ -177,14 +178,18 @@ class Layout:
         self.minor = {"1.2": 2, "1.4": 4}[version]
         wide = self.minor == 4
         self.format, self.length, self.header = (7, 36, 375) if wide else (3, 34, 227)
-        self.returns, self.class_at, self.angle_at, self.time_at, self.rgb_at = (0x11, 16, 18, 22, 30) if wide else (0x09, 15, 16, 20, 28)
+        self.returns = 0x11 if wide else 0x09  # the first of one
+        places = (16, 18, 2, 22, 30) if wide else (15, 16, 1, 20, 28)
+        self.class_at, self.angle_at, self.angle_width, self.time_at, self.rgb_at = places
 
     def head(self, points, least, most):
         edges = [edge * 0.01 for pair in zip(most, least) for edge in pair]
         older = points if self.minor == 2 else 0
         encoding = 17 if self.minor == 4 else 1  # times of GPS, and in 1.4 a reference system as text
-        head = struct.pack("<4sHH16sBB32s32sHHHII", b"LASF", 1, encoding, bytes(16), 1, self.minor, b"made", b"make_tile.py", 60, 2024, self.header, self.header, 0)
-        head += struct.pack("<BHI5I12d", self.format, self.length, older, older, 0, 0, 0, 0, 0.01, 0.01, 0.01, 0.0, 0.0, 0.0, *edges)
+        head = struct.pack("<4sHH16sBB", b"LASF", 1, encoding, bytes(16), 1, self.minor)
+        head += struct.pack("<32s32sHHHII", b"made", b"make_tile.py", 60, 2024, self.header, self.header, 0)
+        head += struct.pack("<BHI5I", self.format, self.length, older, older, 0, 0, 0, 0)
+        head += struct.pack("<12d", 0.01, 0.01, 0.01, 0.0, 0.0, 0.0, *edges)
         if self.minor == 4:
             head += struct.pack("<QQIQ15Q", 0, 0, 0, points, points, *[0] * 14)
         return head
@@ -198,7 +203,7 @@ class Layout:
         block[13::length] = numbers.translate(INTENSITIES)
         block[14::length] = bytes([self.returns]) * count
         block[self.class_at :: length] = numbers.translate(CLASSES)
-        fill(block, self.angle_at, length, struct.pack("<h", angle)[: 2 if self.minor == 4 else 1] * count, 2 if self.minor == 4 else 1)
+        fill(block, self.angle_at, length, struct.pack("<h", angle)[: self.angle_width] * count, self.angle_width)
         fill(block, self.time_at, length, struct.pack("<d", time) * count, 8)
         for place, table in enumerate(COLOURS):
             bytes_of_colour = numbers.translate(table)
@@ -263,7 +268,8 @@ def main(words):
     asked = argparse.ArgumentParser(description="Makes a LAS file of a survey's tile.")
     asked.add_argument("out", help="the file to write")
     asked.add_argument("--points", type=int, default=5_000_000, help="how many points (default 5000000)")
-    asked.add_argument("--version", choices=("1.2", "1.4"), default="1.2", help="1.2 with point format 3, or 1.4 with 7 (default 1.2)")
+    formats = "1.2 with point format 3, or 1.4 with 7 (default 1.2)"
+    asked.add_argument("--version", choices=("1.2", "1.4"), default="1.2", help=formats)
     given = asked.parse_args(words)
     if not 0 <= given.points < 2**32:
         asked.error("--points takes 0 to 4294967295")

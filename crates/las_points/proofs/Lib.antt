@@ -1,0 +1,3 @@
+mod Examples
+pub mod ReadingLemmas
+pub mod RecordLemmas

@@ -1,3 +1,4 @@
+pub mod Bounds
 pub mod CellSets
 pub mod Descent
 pub mod Fitting

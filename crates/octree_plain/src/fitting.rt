@@ -15,9 +15,9 @@ pub struct Span {
 
 /// The least and the greatest coordinate of points on an axis.
 #[derive(Clone, Copy)]
-struct Extent {
-    least: i32,
-    greatest: i32,
+pub(crate) struct Extent {
+    pub least: i32,
+    pub greatest: i32,
 }
 
 impl Extent {
@@ -61,10 +61,10 @@ impl Extent {
 
 /// The extents on the three axes.
 #[derive(Clone, Copy)]
-struct Extents {
-    x: Extent,
-    y: Extent,
-    z: Extent,
+pub(crate) struct Extents {
+    pub x: Extent,
+    pub y: Extent,
+    pub z: Extent,
 }
 
 impl Extents {
@@ -94,7 +94,7 @@ impl Extents {
 }
 
 /// The extents of the points; without points all are from 0 to 0.
-fn extents_of(points: &[Point]) -> Extents
+pub(crate) fn extents_of(points: &[Point]) -> Extents
     ensures x { (result.x.least ≡ least_of (on_x points.now)) × (result.x.greatest ≡ greatest_of (on_x points.now)) }
     ensures y { (result.y.least ≡ least_of (on_y points.now)) × (result.y.greatest ≡ greatest_of (on_y points.now)) }
     ensures z { (result.z.least ≡ least_of (on_z points.now)) × (result.z.greatest ≡ greatest_of (on_z points.now)) }

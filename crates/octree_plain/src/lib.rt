@@ -1,6 +1,7 @@
 //! The octree of a list of points, built at once: its nodes, its text, its outline, and the default cube.
 #![tactic(auto)]
 
+mod bounds;
 mod cell_set;
 mod count;
 mod fitting;
@@ -15,6 +16,7 @@ mod listing_tests;
 mod outlines;
 mod sampling;
 
+pub use bounds::bounds_text;
 pub use count::node_count;
 pub use fitting::{Span, fit_cube};
 pub use growth::{build, build_from};

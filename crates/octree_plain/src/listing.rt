@@ -33,7 +33,7 @@ pub fn nodes_text(
     Ok(out.into_bytes())
 }
 
-fn write_cube(out: &mut String, cube: &Cube) -> Result<(), AllocError>
+pub(crate) fn write_cube(out: &mut String, cube: &Cube) -> Result<(), AllocError>
     ensures { OnOk result (string_bytes out.new ≡ string_bytes out.old ++ cube_line cube.now) }
 {
     let Cube { ox, oy, oz, bits } = *cube;

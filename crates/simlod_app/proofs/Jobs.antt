@@ -16,7 +16,7 @@ use Rattle.run_words.specs.declared.words.WordsFault.TheVariants as words
 use Rattle.simlod_app.specs.Dues.{IsDue, GivesOver, Gives}
 use Rattle.simlod_app.specs.Outcomes.{AreSources, AreFilesOf, IsReached, IsNextOf}
 use Rattle.simlod_app.specs.RunFaults.{words_fault, IsOrMemory}
-use Rattle.simlod_app.specs.Runs.{Source, ◌>>=◌, is_las, is_limit, of_words, run_here, job_here, job_answer, answer}
+use Rattle.simlod_app.specs.Runs.{Source, ◌>>=◌, is_limit, is_run, of_words, reading_of, run_here, job_here, job_answer, answer}
 use Rattle.simlod_app.proofs.DueLaws.{due_first, due_apart, gives_through, gives_next}
 use Rattle.simlod_app.proofs.Readings.{sources, are_sources}
 
@@ -32,33 +32,18 @@ due_of_words due words.Memory is = tt
 due_in_place : (due : Result JobValue Fault) (f g : Fault) → f ≡ g → IsDue (λ name. ⊥) ⊥ due g → IsDue (λ name. ⊥) ⊥ due f
 due_in_place due f g same h = subst (λ (e : Fault). IsDue (λ name. ⊥) ⊥ due e) (sym same) h
 
-not_nodes : (command : CommandName) → (command ≡ Nodes → ⊥) → not (is_same command Nodes) ≡ true
-not_nodes Nodes other = absurd (other refl)
-not_nodes Bounds other = refl
-not_nodes Image other = refl
-not_nodes Replay other = refl
-not_nodes Demo other = refl
-not_nodes Live other = refl
-
--- a job that is not run here
-pub other_command : (ws : List Text) (j : JobValue) → (j.command ≡ Nodes → ⊥) → run_here ws j ≡ Err Command
+-- a command that is not run here
+pub other_command : (ws : List Text) (j : JobValue) (command : CommandName) (run : Bool) → j.command ≡ command → run ≡ is_run command → run ≡ false → run_here ws j ≡ Err Command
 unfolding run_here
-other_command ws j other = rw (not_nodes j.command other) refl
+other_command ws j command run is same not_run = rw (ap is_run is ∙ sym same ∙ not_run) refl
 
-is_nodes : (command : CommandName) → command ≡ Nodes → not (is_same command Nodes) ≡ false
-is_nodes command is = ap (λ c. not (is_same c Nodes)) is
-
-pub las_refused : (ws : List Text) (j : JobValue) (at : ℕ) → j.command ≡ Nodes → position (λ word. is_las word) ws ≡ Some at → run_here ws j ≡ Err (Word (at + 1))
+pub limit_refused : (ws : List Text) (j : JobValue) (command : CommandName) (run : Bool) → j.command ≡ command → run ≡ is_run command → run ≡ true → list_any (λ word. is_limit word) ws ≡ true → run_here ws j ≡ Err Options
 unfolding run_here
-las_refused ws j at nodes las = rw (is_nodes j.command nodes, las) refl
+limit_refused ws j command run is same runs limit = rw (ap is_run is ∙ sym same ∙ runs, limit) refl
 
-pub limit_refused : (ws : List Text) (j : JobValue) → j.command ≡ Nodes → position (λ word. is_las word) ws ≡ None → list_any (λ word. is_limit word) ws ≡ true → run_here ws j ≡ Err Options
+pub runs_here : (ws : List Text) (j : JobValue) (command : CommandName) (run : Bool) → j.command ≡ command → run ≡ is_run command → run ≡ true → list_any (λ word. is_limit word) ws ≡ false → run_here ws j ≡ Ok j
 unfolding run_here
-limit_refused ws j nodes las limit = rw (is_nodes j.command nodes, las, limit) refl
-
-pub runs_here : (ws : List Text) (j : JobValue) → j.command ≡ Nodes → position (λ word. is_las word) ws ≡ None → list_any (λ word. is_limit word) ws ≡ false → run_here ws j ≡ Ok j
-unfolding run_here
-runs_here ws j nodes las limit = rw (is_nodes j.command nodes, las, limit) refl
+runs_here ws j command run is same runs limit = rw (ap is_run is ∙ sym same ∙ runs, limit) refl
 
 -- words that are no job
 pub no_job : (ws : List Text) (e : WordsFault) (f : Fault) → (e ≡ words.Memory) ⊎ (job ws ≡ Err e) → IsOrMemory (words_fault e) f → IsDue (λ name. ⊥) ⊥ (job_here ws) f
@@ -102,9 +87,9 @@ refused_words told ws fails misses f h =
 
 -- what is due of a job is due of its words
 pub answer_of_job : (ws : List Text) (j : JobValue) (files : List Source) (fails misses : Type 0) (found : Result (Vec ℕ Global) Fault) → job_here ws ≡ Ok j
-    → GivesOver (λ name. IsReached j.decimals files name × fails) misses vec_items found (job_answer j files)
+    → GivesOver (λ name. IsReached (reading_of j) files name × fails) misses vec_items found (job_answer j files)
     → GivesOver (λ name. IsNextOf ws files name × fails) misses vec_items found (answer ws files)
 answer_of_job ws j files fails misses found is h =
     gives_next (λ name. IsNextOf ws files name × fails) misses vec_items (job_here ws) j (λ k. job_answer k files) found is
-    (gives_through (λ name. IsReached j.decimals files name × fails) (λ name. IsNextOf ws files name × fails) misses misses vec_items found
+    (gives_through (λ name. IsReached (reading_of j) files name × fails) (λ name. IsNextOf ws files name × fails) misses misses vec_items found
     (job_answer j files) (job_answer j files) (λ name r. ((j, is, r.0), r.1)) (λ m. m) refl h)

@@ -11,9 +11,12 @@ use Rattle.cube_math.specs.Points.{PointValue}
 use Rattle.run_report.specs.declared.fault.Fault.{Fault}
 use Rattle.run_words.specs.Commands.{Text}
 use Rattle.xyz_points.specs.Reading.{and_then, all_or_first_error}
-use Rattle.simlod_app.specs.Dues.{IsDue}
+use Rattle.std.specs.Option.{option_or}
+use Rattle.simlod_app.specs.declared.scan.Reading.{Reading}
+use Rattle.simlod_app.specs.Dues.{IsDue, frame_step}
 use Rattle.simlod_app.specs.Outcomes.{AreSources, IsSource, IsReached}
-use Rattle.simlod_app.specs.Runs.{Source, cloud_of, cloud_in, clouds_of}
+use Rattle.simlod_app.specs.Runs.{Source, Framed, cloud_of, first_frame, in_frame, framed_in, clouds_of, ◌>>=◌}
+use Rattle.simlod_app.proofs.Frames.{clouds_with, clouds_of-is, first_frame-append, settled, read_as, not_read_as, IsStep, file_step, IsOther, file_refused}
 use Rattle.simlod_app.proofs.DueLaws.{due_through}
 
 -- what inputs tell of a file, or nothing where they tell none
@@ -72,48 +75,99 @@ all_or_first_error-append (Ok x ∷ results) more =
 all_or_first_error-append (Err e ∷ results) more = refl
 
 -- files behind others that have points
-clouds_behind : (decimals : ℕ) (files others : List Source) (clouds : List (List PointValue)) → clouds_of decimals files ≡ Ok clouds
-    → clouds_of decimals (files ++ others) ≡ and_then (clouds_of decimals others) (λ more. Ok (clouds ++ more))
-clouds_behind decimals files others clouds read =
-    ap all_or_first_error (map-append (cloud_of decimals) files others) ∙ all_or_first_error-append (map (cloud_of decimals) files) (map (cloud_of decimals) others)
-    ∙ ap (λ r. and_then r (λ xs. and_then (clouds_of decimals others) (λ ys. Ok (xs ++ ys)))) read
+clouds_behind : (how : Reading) (first : Option Framed) (files others : List Source) (clouds : List (List PointValue)) → clouds_with how first files ≡ Ok clouds
+    → clouds_with how first (files ++ others) ≡ and_then (clouds_with how first others) (λ more. Ok (clouds ++ more))
+clouds_behind how first files others clouds read =
+    ap all_or_first_error (map-append (cloud_of how first) files others) ∙ all_or_first_error-append (map (cloud_of how first) files) (map (cloud_of how first) others)
+    ∙ ap (λ r. and_then r (λ xs. and_then (clouds_with how first others) (λ ys. Ok (xs ++ ys)))) read
 
--- the first so many files were read
-pub record AreRead (told : Option Folder) (names : List Text) (decimals : ℕ) (clouds : List (List PointValue)) : Type 0 where
+-- the first so many files were read, of which this is the first LAS file
+pub record AreRead (told : Option Folder) (names : List Text) (how : Reading) (first : Option Framed) (clouds : List (List PointValue)) : Type 0 where
   pub files : List Source
   pub are : AreSources told names files
-  pub read : clouds_of decimals files ≡ Ok clouds
+  pub frame : first_frame files ≡ first
+  pub read : clouds_with how first files ≡ Ok clouds
 
-pub none_read : (told : Option Folder) (decimals : ℕ) → AreRead told [] decimals []
-none_read told decimals = record { files = []; are = record { named = refl; have = All-nil (λ file. IsSource told file.0 file.1) }; read = refl }
+pub none_read : (told : Option Folder) (how : Reading) → AreRead told [] how None []
+none_read told how = record { files = []; are = record { named = refl; have = All-nil (λ file. IsSource told file.0 file.1) }; frame = refl; read = refl }
 
 -- one file more
-pub one_more_read : (told : Option Folder) (names : List Text) (decimals : ℕ) (clouds : List (List PointValue)) (name : Text) (content : Option (List ℕ)) (cloud : List PointValue)
-    → AreRead told names decimals clouds → IsSource told name content → cloud_in decimals name content ≡ Ok cloud → AreRead told (names ++ name ∷ []) decimals (clouds ++ cloud ∷ [])
-one_more_read told names decimals clouds name content cloud before is read = record {
-  files = before.files ++ (name, content) ∷ [];
-  are = joined_sources told names (name ∷ []) before.files ((name, content) ∷ []) before.are (one_source told name content is);
-  read = clouds_behind decimals before.files ((name, content) ∷ []) clouds before.read ∙ ap (λ r. and_then (all_or_first_error (r ∷ [])) (λ more. Ok (clouds ++ more))) read;
-}
+pub one_more_read : (told : Option Folder) (names : List Text) (how : Reading) (first after : Option Framed) (clouds : List (List PointValue)) (name : Text) (content : Option (List ℕ)) (cloud : List PointValue)
+    (frame : Option (List ℕ)) → AreRead told names how first clouds → IsSource told name content → framed_in how name content ≡ Ok (cloud, frame) → frame_step first name frame ≡ Ok after
+    → AreRead told (names ++ name ∷ []) how after (clouds ++ cloud ∷ [])
+one_more_read told names how first after clouds name content cloud frame before is read step =
+    let file : Source = (name, content) in
+    let next : IsStep how first after name content cloud = file_step how first after name content cloud frame (read_as how name content cloud frame read) step in
+    let found : first_frame (before.files ++ file ∷ []) ≡ after = first_frame-append before.files (file ∷ []) ∙ ap (λ f. option_or f (first_frame (file ∷ []))) before.frame ∙ next.first in
+    let old : clouds_with how after before.files ≡ Ok clouds = ap (λ f. clouds_with how f before.files) (sym found) ∙ settled how first before.files (file ∷ []) clouds before.frame before.read in
+    record {
+      files = before.files ++ file ∷ [];
+      are = joined_sources told names (name ∷ []) before.files (file ∷ []) before.are (one_source told name content is);
+      frame = found;
+      read = clouds_behind how after before.files (file ∷ []) clouds old ∙ ap (λ r. and_then (all_or_first_error (r ∷ [])) (λ more. Ok (clouds ++ more))) next.cloud;
+    }
 
--- the refusal of the file that is read next is that of all files
-pub refused_next : (told : Option Folder) (names more : List Text) (decimals : ℕ) (clouds : List (List PointValue)) (name : Text) (content : Option (List ℕ)) (fails fails' misses misses' : Type 0) (f : Fault)
-    → AreRead told names decimals clouds → IsSource told name content → (fails → fails') → (misses → misses')
-    → IsDue (λ failed. (failed ≡ name) × fails) misses (cloud_in decimals name content) f
-    → (files : List Source) × AreSources told (names ++ name ∷ more) files × IsDue (λ failed. IsReached decimals files failed × fails') misses' (clouds_of decimals files) f
-refused_next told names more decimals clouds name content fails fails' misses misses' f before is failing missing due =
-    let behind : List Source = (name, content) ∷ sources told more in
-    let files : List Source = before.files ++ behind in
-    let are : AreSources told (name ∷ more) behind = joined_sources told (name ∷ []) more ((name, content) ∷ []) (sources told more) (one_source told name content is) (are_sources told more) in
-    let reached : (failed : Text) → (failed ≡ name) × fails → IsReached decimals files failed × fails' = λ failed h.
-    (record { before = before.files; content = content; after = sources told more; stands = ap (λ n. before.files ++ (n, content) ∷ sources told more) (sym h.0); read = read_ok _ clouds before.read }, failing h.1) in
-    let refused : (e : Fault) → cloud_in decimals name content ≡ Err e → clouds_of decimals files ≡ Err e = λ e h.
-    clouds_behind decimals before.files behind clouds before.read ∙ ap (λ r. and_then (all_or_first_error (r ∷ map (cloud_of decimals) (sources told more))) (λ more. Ok (clouds ++ more))) h in
-    (files, joined_sources told names (name ∷ more) before.files behind before.are are, due_through (λ failed. (failed ≡ name) × fails) (λ failed. IsReached decimals files failed × fails') misses misses' (cloud_in decimals name content) (clouds_of decimals files) f reached missing refused due)
-  where
-    read_ok : (r : Result (List (List PointValue)) Fault) (xs : List (List PointValue)) → r ≡ Ok xs → IsOk r
-    read_ok (Ok ys) xs e = refl
-    read_ok (Err f) xs e = cc
+read_ok : (r : Result (List (List PointValue)) Fault) (xs : List (List PointValue)) → r ≡ Ok xs → IsOk r
+read_ok (Ok ys) xs e = refl
+read_ok (Err f) xs e = cc
+
+-- all files, where the next one is refused
+all_files : (told : Option Folder) (names more : List Text) (how : Reading) (first : Option Framed) (clouds : List (List PointValue)) (name : Text) (content : Option (List ℕ)) → AreRead told names how first clouds → List Source
+all_files told names more how first clouds name content before = before.files ++ (name, content) ∷ sources told more
+
+all_are : (told : Option Folder) (names more : List Text) (how : Reading) (first : Option Framed) (clouds : List (List PointValue)) (name : Text) (content : Option (List ℕ)) (before : AreRead told names how first clouds) → IsSource told name content
+    → AreSources told (names ++ name ∷ more) (all_files told names more how first clouds name content before)
+unfolding all_files
+all_are told names more how first clouds name content before is =
+    joined_sources told names (name ∷ more) before.files ((name, content) ∷ sources told more) before.are
+    (joined_sources told (name ∷ []) more ((name, content) ∷ []) (sources told more) (one_source told name content is) (are_sources told more))
+
+-- the refusal of the file that is next is that of all files
+refused_at : (told : Option Folder) (names more : List Text) (how : Reading) (first : Option Framed) (clouds : List (List PointValue)) (name : Text) (content : Option (List ℕ)) (before : AreRead told names how first clouds) (e : Fault)
+    → cloud_of how (first_frame (all_files told names more how first clouds name content before)) (name, content) ≡ Err e → clouds_of how (all_files told names more how first clouds name content before) ≡ Err e
+unfolding all_files
+refused_at told names more how first clouds name content before e refused =
+    let rest : List Source = (name, content) ∷ sources told more in
+    let all : List Source = before.files ++ rest in
+    clouds_of-is how all ∙ clouds_behind how (first_frame all) before.files rest clouds (settled how first before.files rest clouds before.frame before.read)
+    ∙ ap (λ r. and_then (all_or_first_error (r ∷ map (cloud_of how (first_frame all)) (sources told more))) (λ more. Ok (clouds ++ more))) refused
+
+-- a file that can't be read, or whose bytes are refused
+pub refused_next : (told : Option Folder) (names more : List Text) (how : Reading) (first : Option Framed) (clouds : List (List PointValue)) (name : Text) (content : Option (List ℕ)) (fails fails' misses misses' : Type 0) (f : Fault)
+    → AreRead told names how first clouds → IsSource told name content → (fails → fails') → (misses → misses')
+    → IsDue (λ failed. (failed ≡ name) × fails) misses (framed_in how name content) f
+    → (files : List Source) × AreSources told (names ++ name ∷ more) files × IsDue (λ failed. IsReached how files failed × fails') misses' (clouds_of how files) f
+unfolding all_files
+refused_next told names more how first clouds name content fails fails' misses misses' f before is failing missing due =
+    let files : List Source = all_files told names more how first clouds name content before in
+    let reached : (failed : Text) → (failed ≡ name) × fails → IsReached how files failed × fails' = λ failed h.
+    (record {
+      before = before.files;
+      content = content;
+      after = sources told more;
+      stands = ap (λ n. before.files ++ (n, content) ∷ sources told more) (sym h.0);
+      read = read_ok _ clouds (clouds_of-is how before.files ∙ ap (λ o. clouds_with how o before.files) before.frame ∙ before.read);
+    }, failing h.1) in
+    let refused : (e : Fault) → framed_in how name content ≡ Err e → clouds_of how files ≡ Err e = λ e h.
+    refused_at told names more how first clouds name content before e (ap (λ r. r >>= in_frame (first_frame files) (name, content)) (not_read_as how name content e h)) in
+    (files, all_are told names more how first clouds name content before is,
+    due_through (λ failed. (failed ≡ name) × fails) (λ failed. IsReached how files failed × fails') misses misses' (framed_in how name content) (clouds_of how files) f reached missing refused due)
+
+-- a LAS file in another frame than the first
+pub refused_frame : (told : Option Folder) (names more : List Text) (how : Reading) (first : Option Framed) (clouds : List (List PointValue)) (name : Text) (content : Option (List ℕ)) (cloud : List PointValue) (frame : Option (List ℕ))
+    (Fails : List Source → Text → Type 0) (misses : Type 0) (f : Fault) → AreRead told names how first clouds → IsSource told name content → framed_in how name content ≡ Ok (cloud, frame)
+    → IsDue (λ failed. ⊥) ⊥ (frame_step first name frame) f
+    → (files : List Source) × AreSources told (names ++ name ∷ more) files × IsDue (Fails files) misses (clouds_of how files) f
+unfolding all_files
+refused_frame told names more how first clouds name content cloud frame Fails misses f before is read due =
+    let rest : List Source = (name, content) ∷ sources told more in
+    let files : List Source = all_files told names more how first clouds name content before in
+    let refused : (e : Fault) → frame_step first name frame ≡ Err e → clouds_of how files ≡ Err e = λ e h.
+    let other : IsOther how first name content e = file_refused how first name content cloud frame e (read_as how name content cloud frame read) h in
+    let found : first_frame files ≡ Some other.known = first_frame-append before.files rest ∙ ap (λ o. option_or o (first_frame rest)) (before.frame ∙ other.is) in
+    refused_at told names more how first clouds name content before e (ap (λ o. cloud_of how o (name, content)) found ∙ other.refused) in
+    (files, all_are told names more how first clouds name content before is,
+    due_through (λ failed. ⊥) (Fails files) ⊥ misses (frame_step first name frame) (clouds_of how files) f (λ name no. absurd no) (λ no. absurd no) refused due)
 
 -- a name and those before and behind it
 pub split_names : (names : List (String Global)) (i : ℕ) (name : String Global) (text : Text) → i < length names → name ≡ get_or names i name → text ≡ string_bytes name
@@ -138,3 +192,9 @@ rose_later old mid new l h = omega arith
 -- what inputs that keep their files tell
 pub told_as_before : (told before : Option Folder) (name : Text) (content : Option (List ℕ)) → told ≡ before → IsSource told name content → IsSource before name content
 told_as_before told before name content same is = subst (λ (t : Option Folder). IsSource t name content) same is
+
+-- all files were read
+pub all_read : (told : Option Folder) (names all : List Text) (how : Reading) (first : Option Framed) (clouds : List (List PointValue)) → AreRead told names how first clouds → names ≡ all
+    → (files : List Source) × AreSources told all files × (clouds_of how files ≡ Ok clouds)
+all_read told names all how first clouds read same =
+    (read.files, subst (λ (ns : List Text). AreSources told ns read.files) same read.are, clouds_of-is how read.files ∙ ap (λ o. clouds_with how o read.files) read.frame ∙ read.read)

@@ -9,7 +9,8 @@ use Rattle.run_report.specs.declared.fault.Fault.{Fault}
 use Rattle.run_report.specs.declared.fault.Fault.TheVariants.{Output, NoFile, ReadFault, Memory}
 use Rattle.run_words.specs.Commands.{Text}
 use Rattle.run_words.specs.Values.{JobValue}
-use Rattle.simlod_app.specs.Runs.{Source, job_here, clouds_of, answer}
+use Rattle.simlod_app.specs.declared.scan.Reading.{Reading}
+use Rattle.simlod_app.specs.Runs.{Source, reading_of, job_here, clouds_of, answer}
 use Rattle.simlod_app.specs.Statuses.{status_of}
 use Rattle.simlod_app.specs.declared.status.Status.{Status}
 use Rattle.simlod_app.specs.declared.status.Status.TheVariants as ended
@@ -42,16 +43,16 @@ abbrev pub AreFilesOf : Option Folder → List Text → List Source → Type 0
 AreFilesOf told words files = (j : JobValue) → job_here words ≡ Ok j → AreSources told j.files files
 
 -- a file of this name stands behind files that are all there and have points
-pub record IsReached (decimals : ℕ) (files : List Source) (name : Text) : Type 0 where
+pub record IsReached (how : Reading) (files : List Source) (name : Text) : Type 0 where
   pub before : List Source
   pub content : Option (List ℕ)
   pub after : List Source
   pub stands : files ≡ before ++ (name, content) ∷ after
-  pub read : IsOk (clouds_of decimals before)
+  pub read : IsOk (clouds_of how before)
 
 -- a file of this name is the next to be read in the job of the words
 abbrev pub IsNextOf : List Text → List Source → Text → Type 0
-IsNextOf words files name = (j : JobValue) × (job_here words ≡ Ok j) × IsReached j.decimals files name
+IsNextOf words files name = (j : JobValue) × (job_here words ≡ Ok j) × IsReached (reading_of j) files name
 
 -- the whole line was appended, or a first part of it where the stream failed
 abbrev pub TellsLine : (old new : Option (List ℕ)) (faults faults' : ℕ) → List ℕ → Type 0

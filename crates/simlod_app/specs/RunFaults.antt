@@ -2,8 +2,10 @@
 use Rattle.std.specs.Prelude.{◌≡◌, ◌⊎◌}
 use Rattle.cloud_io.specs.declared.faults.ReadFault.{ReadFault}
 use Rattle.cloud_io.specs.declared.faults.ReadFault.TheVariants as reading
+use Rattle.las_points.specs.declared.reader.LasFault.{LasFault}
+use Rattle.las_points.specs.declared.reader.LasFault.TheVariants as las
 use Rattle.run_report.specs.declared.fault.Fault.{Fault}
-use Rattle.run_report.specs.declared.fault.Fault.TheVariants.{Command, Word, Options, Value, Pixels, NoFile, ReadFault as FailedRead, Fields, Number, Range, TooLong, Memory}
+use Rattle.run_report.specs.declared.fault.Fault.TheVariants.{Command, Word, Options, Value, Pixels, NoFile, ReadFault as FailedRead, Fields, Number, Range, NotLas, HeaderShort, Version, Compressed, Format, Length, Start, PointsShort, TooLong, Memory}
 use Rattle.run_words.specs.Commands.{Text}
 use Rattle.run_words.specs.Options.{option_word}
 use Rattle.run_words.specs.declared.words.WordsFault.{WordsFault}
@@ -33,6 +35,18 @@ xyz_fault file (xyz.Fields line n) = Fields file line n
 xyz_fault file (xyz.Number line field) = Number file line field
 xyz_fault file (xyz.Range line field) = Range file line field
 xyz_fault file xyz.Memory = Memory
+
+-- a fault of the LAS file of this name
+abbrev pub las_fault : Text → LasFault → Fault
+las_fault file las.NotLas = NotLas file
+las_fault file (las.HeaderShort have) = HeaderShort file have
+las_fault file (las.Version major minor) = Version file major minor
+las_fault file (las.Compressed byte) = Compressed file byte
+las_fault file (las.Format byte) = Format file byte
+las_fault file (las.Length have need) = Length file have need
+las_fault file (las.Start offset header) = Start file offset header
+las_fault file (las.PointsShort have need) = PointsShort file have need
+las_fault file las.Memory = Memory
 
 -- the fault, or want of memory in its place
 abbrev pub IsOrMemory : Fault → Fault → Type 0

@@ -1,27 +1,36 @@
 -- What a run is to answer, of its words and of what its files have: its whole output, or its first refusal.
-use Rattle.std.specs.Prelude.{ℕ, ◌+◌, ◌-◌, List, map, Bool, ◌&&◌, ◌||◌, not, nat_lt, Option, Some, None, Result, Ok, Err, if◌then◌else◌, length, drop, position, codes}
+use Rattle.std.specs.Prelude.{ℕ, ◌-◌, List, [], map, Bool, true, false, ◌&&◌, ◌||◌, not, nat_lt, Option, Some, None, Result, Ok, Err, if◌then◌else◌, length, drop, find, option_map, unwrap_or, codes}
 use Rattle.std.specs.List.{list_any}
 use Rattle.std.specs.Option.{option_map_or}
-use Rattle.std.specs.Str.{str_eq_ignore_ascii_case}
+use Rattle.std.specs.Str.{bytes_eq, str_eq_ignore_ascii_case}
 use Rattle.cube_math.specs.Points.{PointValue}
 use Rattle.cube_math.specs.Cubes.{CubeValue}
 use Rattle.octree_model.specs.Bags.{joined}
 use Rattle.octree_model.specs.Octree.{octree}
+use Rattle.las_points.specs.Clouds.{CloudValue}
+use Rattle.las_points.specs.Fields.{frame}
+use Rattle.las_points.specs.Reading.{las}
+use Rattle.las_points.specs.declared.reader.LasFault.{LasFault}
+use Rattle.las_points.specs.declared.reader.RgbByte.{RgbByte}
+use Rattle.las_points.specs.declared.reader.RgbByte.TheVariants.{High, Low}
+use Rattle.octree_plain.specs.Bounds.{bounds_text}
 use Rattle.octree_plain.specs.Fitting.{fitted_cube}
 use Rattle.octree_plain.specs.Listing.{nodes_text}
 use Rattle.octree_plain.specs.declared.fitting.Span.{Span}
 use Rattle.run_report.specs.declared.fault.Fault.{Fault}
-use Rattle.run_report.specs.declared.fault.Fault.TheVariants.{Command, Word, Options, NoFile, TooLong, Axis, Batch}
+use Rattle.run_report.specs.declared.fault.Fault.TheVariants.{Command, Options, NoFile, TooLong, Frames, Axis, Batch}
 use Rattle.run_words.specs.Commands.{Text, is_same}
 use Rattle.run_words.specs.Jobs.{job}
-use Rattle.run_words.specs.Screens.{is_file, gives}
+use Rattle.run_words.specs.Screens.{gives}
 use Rattle.run_words.specs.Values.{JobValue}
-use Rattle.run_words.specs.declared.command.CommandName.TheVariants.{Nodes}
+use Rattle.run_words.specs.declared.command.CommandName.{CommandName}
+use Rattle.run_words.specs.declared.command.CommandName.TheVariants.{Nodes, Bounds}
 use Rattle.run_words.specs.declared.words.WordsFault.{WordsFault}
 use Rattle.xyz_points.specs.Reading.{xyz, all_or_first_error}
 use Rattle.xyz_points.specs.declared.reader.XyzFault.{XyzFault}
+use Rattle.simlod_app.specs.declared.scan.Reading.{Reading}
 use Rattle.simlod_app.specs.Batches.{batches, first_outside_row}
-use Rattle.simlod_app.specs.RunFaults.{words_fault, xyz_fault}
+use Rattle.simlod_app.specs.RunFaults.{words_fault, xyz_fault, las_fault}
 
 infixl 10 ◌>>=◌
 -- one step after another, as long as none is refused
@@ -33,25 +42,31 @@ abbrev pub ◌>>=◌ : {X Y : Type 0} → Result X Fault → (X → Result Y Fau
 abbrev pub ends_as : Text → Text → Bool
 ends_as end word = str_eq_ignore_ascii_case (drop (length word - 4) word) end
 
--- whether a word names a LAS file
+-- whether a file of this name is read as LAS
 abbrev pub is_las : Text → Bool
-is_las word = is_file word && (ends_as (codes ".las") word || ends_as (codes ".laz") word)
+is_las name = ends_as (codes ".las") name || ends_as (codes ".laz") name
 
 -- whether a word sets a limit on nodes or points
 abbrev pub is_limit : Text → Bool
 is_limit word = gives (codes "nodes") word || gives (codes "points") word
+
+-- whether a command is run here
+abbrev pub is_run : CommandName → Bool
+is_run Nodes = true
+is_run Bounds = true
+is_run _ = false
 
 -- a refusal of the words is one of the run
 abbrev pub of_words : Result JobValue WordsFault → Result JobValue Fault
 of_words (Ok j) = Ok j
 of_words (Err fault) = Err (words_fault fault)
 
--- a job, if it is one that is run here: a listing of text files without limits on nodes and points
+-- a job, if it is one that is run here: of a command that is run, and without limits on nodes and points
 unfoldable pub run_here : List Text → JobValue → Result JobValue Fault
 run_here words j =
-    if not (is_same j.command Nodes) then Err Command
-    else option_map_or (λ at. Err (Word (at + 1))) (position (λ word. is_las word) words)
-    (if list_any (λ word. is_limit word) words then Err Options else Ok j)
+    if not (is_run j.command) then Err Command
+    else if list_any (λ word. is_limit word) words then Err Options
+    else Ok j
 
 -- the job of the words, if it is one that is run here
 unfoldable pub job_here : List Text → Result JobValue Fault
@@ -66,18 +81,65 @@ abbrev pub of_text : Text → Result (List PointValue) XyzFault → Result (List
 of_text name (Ok points) = Ok points
 of_text name (Err fault) = Err (xyz_fault name fault)
 
--- the points of a file that has these bytes, or is not there
-abbrev pub cloud_in : ℕ → Text → Option (List ℕ) → Result (List PointValue) Fault
-cloud_in decimals name None = Err (NoFile name)
-cloud_in decimals name (Some bytes) = if nat_lt 1000000000 (length bytes) then Err (TooLong name) else of_text name (xyz decimals bytes)
+-- a refusal of a LAS file is one of the run
+abbrev pub of_las : Text → Result CloudValue LasFault → Result (List PointValue) Fault
+of_las name (Ok cloud) = Ok cloud.points
+of_las name (Err fault) = Err (las_fault name fault)
 
--- the points of a file
-abbrev pub cloud_of : ℕ → Source → Result (List PointValue) Fault
-cloud_of decimals file = cloud_in decimals file.0 file.1
+-- the byte of a colour that is taken
+abbrev pub rgb_byte : Bool → RgbByte
+rgb_byte low = if low then Low else High
+
+-- the points in the bytes of a file, by its name
+abbrev pub points_in : Reading → Text → List ℕ → Result (List PointValue) Fault
+points_in how name bytes = if is_las name then of_las name (las (rgb_byte how.low) bytes) else of_text name (xyz how.decimals bytes)
+
+-- the points of a file that has these bytes, or is not there
+abbrev pub cloud_in : Reading → Text → Option (List ℕ) → Result (List PointValue) Fault
+cloud_in how name None = Err (NoFile name)
+cloud_in how name (Some bytes) = if nat_lt 1000000000 (length bytes) then Err (TooLong name) else points_in how name bytes
+
+-- the scales and offsets of a LAS file
+abbrev pub frame_of : Source → List ℕ
+frame_of file = frame (unwrap_or file.1 [])
+
+-- a name, and scales and offsets
+abbrev pub Framed : Type 0
+Framed = Text × List ℕ
+
+-- the name of a file, and its scales and offsets
+abbrev pub framed_file : Source → Framed
+framed_file file = (file.0, frame_of file)
+
+-- the first LAS file, with its scales and offsets
+abbrev pub first_frame : List Source → Option Framed
+first_frame files = option_map framed_file (find (λ file. is_las file.0) files)
+
+-- the scales and offsets of a file, if it is a LAS file
+abbrev pub las_frame : Source → Option (List ℕ)
+las_frame file = if is_las file.0 then Some (frame_of file) else None
+
+-- the points of a file beside its scales and offsets
+abbrev pub beside_frame : Source → Result (List PointValue) Fault → Result (List PointValue × Option (List ℕ)) Fault
+beside_frame file points = points >>= λ ps. Ok (ps, las_frame file)
+
+-- the same of a file that has these bytes, or is not there
+abbrev pub framed_in : Reading → Text → Option (List ℕ) → Result (List PointValue × Option (List ℕ)) Fault
+framed_in how name content = beside_frame (name, content) (cloud_in how name content)
+
+-- points, unless they are of a LAS file with other scales or offsets than the first
+abbrev pub in_frame : Option Framed → Source → List PointValue → Result (List PointValue) Fault
+in_frame None file points = Ok points
+in_frame (Some first) file points =
+    if is_las file.0 && not (bytes_eq (frame_of file) first.1) then Err (Frames file.0 first.0) else Ok points
+
+-- the points of a file among files of which this is the first LAS file
+abbrev pub cloud_of : Reading → Option Framed → Source → Result (List PointValue) Fault
+cloud_of how first file = cloud_in how file.0 file.1 >>= in_frame first file
 
 -- the points of each file in order, or the first refusal
-abbrev pub clouds_of : ℕ → List Source → Result (List (List PointValue)) Fault
-clouds_of decimals files = all_or_first_error (map (cloud_of decimals) files)
+unfoldable pub clouds_of : Reading → List Source → Result (List (List PointValue)) Fault
+clouds_of how files = all_or_first_error (map (cloud_of how (first_frame files)) files)
 
 -- points that span too much are a refusal of the run
 abbrev pub of_span : Result CubeValue Span → Result CubeValue Fault
@@ -103,9 +165,21 @@ listing_round j clouds cube = cube >>= listing_in j clouds
 abbrev pub listing : JobValue → List (List PointValue) → Result (List ℕ) Fault
 listing j clouds = listing_round j clouds (cube_of j.cube (joined clouds))
 
+-- what the points take up, with the least cube round them
+abbrev pub bounds_round : List PointValue → Result CubeValue Fault → Result (List ℕ) Fault
+bounds_round points cube = cube >>= λ c. Ok (bounds_text points c)
+
+-- the output of a job with these clouds
+abbrev pub output : JobValue → List (List PointValue) → Result (List ℕ) Fault
+output j clouds = if is_same j.command Bounds then bounds_round (joined clouds) (cube_of None (joined clouds)) else listing j clouds
+
+-- how a job reads its files
+abbrev pub reading_of : JobValue → Reading
+reading_of j = record { decimals = j.decimals; low = j.low }
+
 -- what a job over these files is to answer
 abbrev pub job_answer : JobValue → List Source → Result (List ℕ) Fault
-job_answer j files = clouds_of j.decimals files >>= listing j
+job_answer j files = clouds_of (reading_of j) files >>= output j
 
 -- what a run of these words over these files is to answer
 abbrev pub answer : List Text → List Source → Result (List ℕ) Fault

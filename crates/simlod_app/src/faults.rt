@@ -1,7 +1,9 @@
 ghost use Rattle.run_report.specs.Faults.{HasAxis};
-ghost use Rattle.simlod_app.specs.RunFaults.{words_fault, read_fault, xyz_fault, IsOrMemory};
+ghost use Rattle.simlod_app.specs.RunFaults.{words_fault, read_fault, xyz_fault, las_fault, IsOrMemory};
+ghost use Rattle.run_report.specs.declared.fault.Fault.TheVariants.{Frames};
 
 use cloud_io::ReadFault;
+use las_points::LasFault;
 use run_report::{Fault, Name};
 use run_words::WordsFault;
 use std::alloc::Global;
@@ -54,5 +56,44 @@ pub fn of_xyz(alloc: Global, name: &str, fault: XyzFault) -> Fault
         XyzFault::Number { line, field } => Fault::Number { name, line, field },
         XyzFault::Range { line, field } => Fault::Range { name, line, field },
         XyzFault::Memory => Fault::Memory,
+    }
+}
+
+/// The fault of a LAS file that is not read, or want of memory.
+pub fn of_las(alloc: Global, name: &str, fault: LasFault) -> Fault
+    ensures kind { IsOrMemory (las_fault name.now fault) result }
+    ensures axis { HasAxis result }
+{
+    let Ok(name) = Name::new(alloc, name) else {
+        return Fault::Memory;
+    };
+    match fault {
+        LasFault::NotLas => Fault::NotLas { name },
+        LasFault::HeaderShort { have } => Fault::HeaderShort { name, have },
+        LasFault::Version { major, minor } => Fault::Version { name, major, minor },
+        LasFault::Compressed { byte } => Fault::Compressed { name, byte },
+        LasFault::Format { byte } => Fault::Format { name, byte },
+        LasFault::Length { have, need } => Fault::Length { name, have, need },
+        LasFault::Start { offset, header } => Fault::Start {
+            name,
+            offset,
+            header,
+        },
+        LasFault::PointsShort { have, need } => Fault::PointsShort { name, have, need },
+        LasFault::Memory => Fault::Memory,
+    }
+}
+
+/// The fault of a LAS file whose scales or offsets are not those of the first, or want of memory.
+pub fn of_frames(alloc: Global, name: &str, first: &str) -> Fault
+    ensures kind { IsOrMemory (Frames name.now first.now) result }
+    ensures axis { HasAxis result }
+{
+    let Ok(name) = Name::new(alloc, name) else {
+        return Fault::Memory;
+    };
+    match Name::new(alloc, first) {
+        Ok(first) => Fault::Frames { name, first },
+        Err(_) => Fault::Memory,
     }
 }

@@ -1,8 +1,10 @@
 //! The top call: what a run of the program does with its words, its files, its output and its error stream.
 #![tactic(auto)]
 
+mod bounds;
 mod faults;
 mod nodes;
+mod output;
 mod plain;
 mod scan;
 mod status;

@@ -1,5 +1,4 @@
-ghost use Rattle.std.specs.Prelude.{◌≡◌, ◌<◌, ◌≤◌, ◌^◌, All, IsTrue, IfOk, IfErr, List, length, map, vec_items};
-ghost use Rattle.cloud_io.specs.Counts.{Rose};
+ghost use Rattle.std.specs.Prelude.{◌≡◌, ◌<◌, ◌≤◌, ◌^◌, All, IsTrue, IfOk, IfErr, length, map, vec_items};
 ghost use Rattle.cube_math.specs.Cubes.{contains};
 ghost use Rattle.octree_model.specs.Bags.{joined};
 ghost use Rattle.octree_model.specs.Octree.{octree};
@@ -7,33 +6,18 @@ ghost use Rattle.octree_plain.specs.Listing.{nodes_text};
 ghost use Rattle.run_report.specs.Faults.{HasAxis};
 ghost use Rattle.run_words.specs.Values.{HasRanges};
 ghost use Rattle.simlod_app.specs.Batches.{batches, first_outside_row};
-ghost use Rattle.simlod_app.specs.Dues.{Gives, GivesOver};
-ghost use Rattle.simlod_app.specs.Outcomes.{AreSources, IsReached};
-ghost use Rattle.simlod_app.specs.Runs.{Source, cube_of, job_answer, listing, listing_in, listing_round};
+ghost use Rattle.simlod_app.specs.Dues.{Gives};
+ghost use Rattle.simlod_app.specs.Runs.{cube_of, listing, listing_in, listing_round};
 
-use crate::scan::{join, read_clouds};
-use cloud_io::Inputs;
+use crate::scan::join;
 use cube_math::{Cause, Cube, Point, RefusedRow, first_outside};
 use octree_plain::{build_from, fit_cube, nodes_text};
 use run_report::Fault;
 use run_words::Job;
 use std::alloc::{AllocError, Global};
 
-/// The listing of the octree of all points of a job's files.
-pub fn listing<I: Inputs>(alloc: Global, inputs: &mut I, job: &Job) -> Result<Vec<u8>, Fault>
-    requires { HasRanges job.now }
-    ensures kept { I.files inputs.new ≡ I.files inputs.old }
-    ensures axis { IfErr result HasAxis }
-    ensures gives { (files : List Source) × AreSources (I.files inputs.old) job.now.files files
-        × GivesOver (λ name. IsReached job.now.decimals files name × Rose (I.faults inputs.old) (I.faults inputs.new)) (Rose (I.missing inputs.old) (I.missing inputs.new))
-          vec_items result (job_answer job.now files) }
-{
-    let clouds = read_clouds(alloc, inputs, job.files.as_slice(), job.decimals)?;
-    clouds_listing(alloc, clouds, job)
-}
-
 /// The listing of the octree of all points of the clouds.
-fn clouds_listing(alloc: Global, clouds: Vec<Vec<Point>>, job: &Job) -> Result<Vec<u8>, Fault>
+pub fn listing(alloc: Global, clouds: Vec<Vec<Point>>, job: &Job) -> Result<Vec<u8>, Fault>
     requires { HasRanges job.now }
     ensures axis { IfErr result HasAxis }
     ensures gives { Gives vec_items result (listing job.now (map vec_items clouds.items)) }

@@ -5,7 +5,7 @@ ghost use Rattle.simlod_app.specs.Dues.{GivesOver};
 ghost use Rattle.simlod_app.specs.Outcomes.{AreFilesOf, IsNextOf, IsRun, TellsLine, TellsFault, outside};
 ghost use Rattle.simlod_app.specs.Runs.{Source, answer};
 
-use crate::nodes::listing;
+use crate::output::job_output;
 use crate::status::{Status, status_of};
 use crate::usage::read_job;
 use cloud_io::{Inputs, Sink, write_all};
@@ -48,7 +48,7 @@ fn output_of<I: Inputs>(alloc: Global, words: &[String], inputs: &mut I) -> Resu
           vec_items result (answer (map string_bytes words.now) files) }
 {
     let job = read_job(alloc, words)?;
-    listing(alloc, inputs, &job)
+    job_output(alloc, inputs, &job)
 }
 
 /// Tells a fault, and answers its status, or that there was no memory for its line.

@@ -1,0 +1,51 @@
+ghost use Rattle.std.specs.Prelude.{◌≡◌, IfErr, List, map, vec_items};
+ghost use Rattle.cloud_io.specs.Counts.{Rose};
+ghost use Rattle.run_report.specs.Faults.{HasAxis};
+ghost use Rattle.run_words.specs.Values.{HasRanges};
+ghost use Rattle.simlod_app.specs.Dues.{Gives, GivesOver};
+ghost use Rattle.simlod_app.specs.Outcomes.{AreSources, IsReached};
+ghost use Rattle.simlod_app.specs.Runs.{Source, job_answer, output, reading_of};
+
+use crate::bounds::bounds;
+use crate::nodes::listing;
+use crate::scan::{Reading, read_clouds};
+use cloud_io::Inputs;
+use cube_math::Point;
+use run_report::Fault;
+use run_words::{CommandName, Job};
+use std::alloc::Global;
+
+/// The whole output of a job over its files.
+pub fn job_output<I: Inputs>(alloc: Global, inputs: &mut I, job: &Job) -> Result<Vec<u8>, Fault>
+    requires { HasRanges job.now }
+    ensures kept { I.files inputs.new ≡ I.files inputs.old }
+    ensures axis { IfErr result HasAxis }
+    ensures gives { (files : List Source) × AreSources (I.files inputs.old) job.now.files files
+        × GivesOver (λ name. IsReached (reading_of job.now) files name × Rose (I.faults inputs.old) (I.faults inputs.new)) (Rose (I.missing inputs.old) (I.missing inputs.new))
+          vec_items result (job_answer job.now files) }
+{
+    let clouds = read_clouds(alloc, inputs, job.files.as_slice(), reading_of(job))?;
+    output(alloc, clouds, job)
+}
+
+/// How a job reads its files.
+fn reading_of(job: &Job) -> Reading
+    ensures { result ≡ reading_of job.now }
+{
+    Reading {
+        decimals: job.decimals,
+        low: job.low,
+    }
+}
+
+/// The output of a job with these clouds.
+fn output(alloc: Global, clouds: Vec<Vec<Point>>, job: &Job) -> Result<Vec<u8>, Fault>
+    requires { HasRanges job.now }
+    ensures axis { IfErr result HasAxis }
+    ensures gives { Gives vec_items result (output job.now (map vec_items clouds.items)) }
+{
+    match job.command {
+        CommandName::Bounds => bounds(alloc, clouds),
+        _ => listing(alloc, clouds, job),
+    }
+}

@@ -1,5 +1,5 @@
 -- One file that was read, or not.
-use Rattle.std.proofs.Common.{◌≡◌, ◌⊎◌, inl, inr, ℕ, ◌<◌, ◌≤◌, List, length, replicate, Bool, true, false, nat_lt, Some, None, Option, Result, Ok, Err, ap, ◌∙◌, sym, refl, subst, arith, Global, if◌then◌else◌, cond}
+use Rattle.std.proofs.Common.{◌≡◌, inl, inr, ℕ, ◌<◌, ◌≤◌, List, length, replicate, Bool, true, false, nat_lt, Some, None, Option, Result, Ok, Err, ap, ◌∙◌, sym, refl, subst, Global, if◌then◌else◌}
 use Rattle.std.specs.Prelude.{Vec, IfSome, IsSomeAnd, IfOk}
 use Rattle.std.proofs.lemmas.Bool.{lt-ltb, le-ltb}
 use Rattle.std.proofs.lemmas.List.{length-replicate}
@@ -27,7 +27,7 @@ use Rattle.simlod_app.specs.declared.scan.FileCloud.{FileCloud}
 use Rattle.simlod_app.specs.Dues.{IsDue, GivesOver, Gives}
 use Rattle.simlod_app.specs.Outcomes.{IsSource}
 use Rattle.simlod_app.specs.RunFaults.{read_fault, xyz_fault, las_fault, IsOrMemory}
-use Rattle.simlod_app.specs.Runs.{is_las, las_frame, frame_of, points_in, of_text, of_las, rgb_byte, beside_frame, framed_in, ◌>>=◌}
+use Rattle.simlod_app.specs.Runs.{is_las, las_frame, frame_of, points_in, of_text, of_las, rgb_byte, beside_frame, framed_in}
 use Rattle.simlod_app.proofs.DueLaws.{due_first, gives_through}
 use Rattle.simlod_app.proofs.Readings.{content_of, is_content}
 
@@ -91,11 +91,13 @@ framed c = (c.points.items, c.frame)
 pub parsed : (told : Option Folder) (name : Text) (how : Reading) (bytes slice : List ℕ) (found : Result FileCloud Fault) (fails misses : Type 0) → length bytes ≤ 1000000000 → slice ≡ bytes
     → IfSome told (λ folder. folder name ≡ Some bytes) → Gives framed found (beside_frame (name, Some slice) (points_in how name slice))
     → (content : Option (List ℕ)) × IsSource told name content × GivesOver (λ failed. (failed ≡ name) × fails) misses framed found (framed_in how name content)
-parsed told name how bytes slice found fails misses short lent tells gives =
-    (Some bytes, bytes_told told name bytes tells,
-    gives_through (λ failed. ⊥) (λ failed. (failed ≡ name) × fails) ⊥ misses framed found (beside_frame (name, Some slice) (points_in how name slice)) (framed_in how name (Some bytes))
-    (λ failed no. absurd no) (λ no. absurd no)
-    (by_length how name bytes false (le-ltb _ _ short) ∙ ap (λ bs. beside_frame (name, Some bs) (points_in how name bs)) (sym lent)) gives)
+parsed told name how bytes slice found fails misses short lent tells gives = (
+  Some bytes,
+  bytes_told told name bytes tells,
+  gives_through (λ failed. ⊥) (λ failed. (failed ≡ name) × fails) ⊥ misses framed found (beside_frame (name, Some slice) (points_in how name slice)) (framed_in how name (Some bytes))
+      (λ failed no. absurd no) (λ no. absurd no)
+      (by_length how name bytes false (le-ltb _ _ short) ∙ ap (λ bs. beside_frame (name, Some bs) (points_in how name bs)) (sym lent)) gives,
+)
 
 -- points beside the scales and offsets of their file
 beside : (name : Text) (bytes : List ℕ) (found : Result FileCloud Fault) (r : Result (List PointValue) Fault) (o : Option (List ℕ)) → las_frame (name, Some bytes) ≡ o
@@ -152,6 +154,7 @@ frame_read rgb bytes c is = by_refusal (first_refusal bytes) is
     frame_or : Result CloudValue LasFault → List ℕ
     frame_or (Ok d) = d.frame
     frame_or (Err e) = frame bytes
+
     by_refusal : (o : Option LasFault) → unless o (cloud rgb bytes) ≡ Ok c → c.frame ≡ frame bytes
     by_refusal None h = sym (ap frame_or h)
     by_refusal (Some e) h = cc

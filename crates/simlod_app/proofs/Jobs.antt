@@ -1,14 +1,12 @@
 -- The job of the words, and what is due of it.
 use Rattle.std.proofs.Common.{◌≡◌, ◌⊎◌, inl, inr, ℕ, List, [], Option, Result, Ok, Err, ap, ◌∙◌, sym, refl, subst, Global}
-use Rattle.std.specs.Prelude.{Vec, vec_items, Bool, true, false, not, cond, Some, None, position, if◌then◌else◌, ◌+◌}
+use Rattle.std.specs.Prelude.{Vec, vec_items, Bool, true, false}
 use Rattle.std.specs.List.{list_any}
-use Rattle.std.specs.Option.{option_map_or}
 use Rattle.cloud_io.specs.Files.{Folder}
 use Rattle.run_report.specs.declared.fault.Fault.{Fault}
-use Rattle.run_report.specs.declared.fault.Fault.TheVariants.{Command, Word, Options}
-use Rattle.run_words.specs.Commands.{Text, is_same}
+use Rattle.run_report.specs.declared.fault.Fault.TheVariants.{Command, Options}
+use Rattle.run_words.specs.Commands.{Text}
 use Rattle.run_words.specs.declared.command.CommandName.{CommandName}
-use Rattle.run_words.specs.declared.command.CommandName.TheVariants.{Nodes, Bounds, Image, Replay, Demo, Live}
 use Rattle.run_words.specs.Jobs.{job}
 use Rattle.run_words.specs.Values.{JobValue}
 use Rattle.run_words.specs.declared.words.WordsFault.{WordsFault}

@@ -1,7 +1,6 @@
 -- Files read one after the other.
 use Rattle.std.proofs.Common.{◌≡◌, ℕ, suc, ◌+◌, ◌<◌, ◌≤◌, get_or, subst, String, Global, List, [], ◌∷◌, ◌++◌, map, length, take, drop, Some, None, Option, Result, Ok, Err, ap, ◌∙◌, sym, refl, arith}
 use Rattle.std.specs.Prelude.{IsOk, string_bytes}
-use Rattle.std.specs.List.{All}
 use Rattle.std.proofs.lemmas.List.{map-append, take-append-drop, take_more}
 use Rattle.std.proofs.Math.Seq.{drop-cons}
 use Rattle.cloud_io.specs.Counts.{Rose}
@@ -140,18 +139,22 @@ pub refused_next : (told : Option Folder) (names more : List Text) (how : Readin
 unfolding all_files
 refused_next told names more how first clouds name content fails fails' misses misses' f before is failing missing due =
     let files : List Source = all_files told names more how first clouds name content before in
-    let reached : (failed : Text) → (failed ≡ name) × fails → IsReached how files failed × fails' = λ failed h.
-    (record {
-      before = before.files;
-      content = content;
-      after = sources told more;
-      stands = ap (λ n. before.files ++ (n, content) ∷ sources told more) (sym h.0);
-      read = read_ok _ clouds (clouds_of-is how before.files ∙ ap (λ o. clouds_with how o before.files) before.frame ∙ before.read);
-    }, failing h.1) in
+    let reached : (failed : Text) → (failed ≡ name) × fails → IsReached how files failed × fails' = λ failed h. (
+      record {
+        before = before.files;
+        content = content;
+        after = sources told more;
+        stands = ap (λ n. before.files ++ (n, content) ∷ sources told more) (sym h.0);
+        read = read_ok _ clouds (clouds_of-is how before.files ∙ ap (λ o. clouds_with how o before.files) before.frame ∙ before.read);
+      },
+      failing h.1,
+    ) in
     let refused : (e : Fault) → framed_in how name content ≡ Err e → clouds_of how files ≡ Err e = λ e h.
-    refused_at told names more how first clouds name content before e (ap (λ r. r >>= in_frame (first_frame files) (name, content)) (not_read_as how name content e h)) in
-    (files, all_are told names more how first clouds name content before is,
-    due_through (λ failed. (failed ≡ name) × fails) (λ failed. IsReached how files failed × fails') misses misses' (framed_in how name content) (clouds_of how files) f reached missing refused due)
+    refused_at told names more how first clouds name content before e (ap (λ r. r >>= in_frame (first_frame files) (name, content)) (not_read_as how name content e h)) in (
+      files,
+      all_are told names more how first clouds name content before is,
+      due_through (λ failed. (failed ≡ name) × fails) (λ failed. IsReached how files failed × fails') misses misses' (framed_in how name content) (clouds_of how files) f reached missing refused due,
+    )
 
 -- a LAS file in another frame than the first
 pub refused_frame : (told : Option Folder) (names more : List Text) (how : Reading) (first : Option Framed) (clouds : List (List PointValue)) (name : Text) (content : Option (List ℕ)) (cloud : List PointValue) (frame : Option (List ℕ))
@@ -165,9 +168,11 @@ refused_frame told names more how first clouds name content cloud frame Fails mi
     let refused : (e : Fault) → frame_step first name frame ≡ Err e → clouds_of how files ≡ Err e = λ e h.
     let other : IsOther how first name content e = file_refused how first name content cloud frame e (read_as how name content cloud frame read) h in
     let found : first_frame files ≡ Some other.known = first_frame-append before.files rest ∙ ap (λ o. option_or o (first_frame rest)) (before.frame ∙ other.is) in
-    refused_at told names more how first clouds name content before e (ap (λ o. cloud_of how o (name, content)) found ∙ other.refused) in
-    (files, all_are told names more how first clouds name content before is,
-    due_through (λ failed. ⊥) (Fails files) ⊥ misses (frame_step first name frame) (clouds_of how files) f (λ name no. absurd no) (λ no. absurd no) refused due)
+    refused_at told names more how first clouds name content before e (ap (λ o. cloud_of how o (name, content)) found ∙ other.refused) in (
+      files,
+      all_are told names more how first clouds name content before is,
+      due_through (λ failed. ⊥) (Fails files) ⊥ misses (frame_step first name frame) (clouds_of how files) f (λ name no. absurd no) (λ no. absurd no) refused due,
+    )
 
 -- a name and those before and behind it
 pub split_names : (names : List (String Global)) (i : ℕ) (name : String Global) (text : Text) → i < length names → name ≡ get_or names i name → text ≡ string_bytes name

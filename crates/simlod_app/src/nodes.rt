@@ -88,12 +88,7 @@ fn listing_in_fitted(alloc: Global, clouds: Vec<Vec<Point>>, job: &Job) -> Resul
 }
 
 /// The text of the octree of points in a cube.
-fn text_in(
-    alloc: Global,
-    points: Vec<Point>,
-    cube: Cube,
-    job: &Job,
-) -> Result<Vec<u8>, AllocError>
+fn text_in(alloc: Global, points: Vec<Point>, cube: Cube, job: &Job) -> Result<Vec<u8>, AllocError>
     requires few { length points.items < 2 ^ 32 }
     requires contained { All (λ p. IsTrue (contains cube p)) points.items }
     requires ranges { HasRanges job.now }

@@ -22,7 +22,7 @@ pub fn job_output<I: Inputs>(alloc: Global, inputs: &mut I, job: &Job) -> Result
     ensures axis { IfErr result HasAxis }
     ensures gives { (files : List Source) × AreSources (I.files inputs.old) job.now.files files
         × GivesOver (λ name. IsReached (reading_of job.now) files name × Rose (I.faults inputs.old) (I.faults inputs.new)) (Rose (I.missing inputs.old) (I.missing inputs.new))
-          vec_items result (job_answer job.now files) }
+        vec_items result (job_answer job.now files) }
 {
     let clouds = read_clouds(alloc, inputs, job.files.as_slice(), reading_of(job))?;
     output(alloc, clouds, job)

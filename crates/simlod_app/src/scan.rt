@@ -54,7 +54,7 @@ pub fn read_clouds<I: Inputs>(
     ensures axis { IfErr result HasAxis }
     ensures gives { (files : List Source) × AreSources (I.files inputs.old) (map string_bytes names.now) files
         × GivesOver (λ name. IsReached how files name × Rose (I.faults inputs.old) (I.faults inputs.new)) (Rose (I.missing inputs.old) (I.missing inputs.new))
-          (λ clouds. map vec_items clouds.items) result (clouds_of how files) }
+        (λ clouds. map vec_items clouds.items) result (clouds_of how files) }
 {
     let mut clouds = Vec::new(alloc);
     let mut first = None;
@@ -106,7 +106,7 @@ fn read_cloud<I: Inputs>(
     ensures axis { IfErr result HasAxis }
     ensures gives { (content : Option (List ℕ)) × IsSource (I.files inputs.old) name.now content
         × GivesOver (λ failed. (failed ≡ name.now) × Rose (I.faults inputs.old) (I.faults inputs.new)) (Rose (I.missing inputs.old) (I.missing inputs.new))
-          (λ c. (c.points.items, c.frame)) result (framed_in how name.now content) }
+        (λ c. (c.points.items, c.frame)) result (framed_in how name.now content) }
 {
     let bytes = match read_all(alloc, inputs, name, MOST_BYTES) {
         Ok(bytes) => bytes,

@@ -47,13 +47,10 @@ fn words_that_are_no_job_are_refused_in_order(rt: HostRuntime) -> Result<(), Fai
 #[test]
 fn jobs_that_are_not_run_here_are_refused(rt: HostRuntime) -> Result<(), Fail> {
     let rows = [
-        ("bounds p.xyz", "simlod: usage: command\n"),
         ("image p.xyz", "simlod: usage: command\n"),
         ("live p.xyz", "simlod: usage: command\n"),
         ("replay --schedule=s p.xyz", "simlod: usage: command\n"),
         ("demo", "simlod: usage: command\n"),
-        ("nodes p.xyz tile.LAS", "simlod: usage: word 3\n"),
-        ("nodes --leaf=2 a.laz p.xyz", "simlod: usage: word 3\n"),
         ("nodes --nodes=8 p.xyz", "simlod: usage: options\n"),
         ("nodes p.xyz --points=2", "simlod: usage: options\n"),
     ];

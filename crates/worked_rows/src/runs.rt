@@ -45,6 +45,16 @@ pub fn run_in(
     files: &[(&str, &str)],
     outside: Outside,
 ) -> Result<Outcome, AllocError> {
+    run_over(alloc, line, files_of(alloc, files)?, outside)
+}
+
+/// The same over files of any bytes.
+pub fn run_over(
+    alloc: Global,
+    line: &str,
+    files: Vec<NamedFile>,
+    outside: Outside,
+) -> Result<Outcome, AllocError> {
     let words = words_of(alloc, line)?;
     let Outside {
         inputs,
@@ -52,7 +62,7 @@ pub fn run_in(
         errors,
         piece,
     } = outside;
-    let mut inputs = MemInputs::new(alloc, files_of(alloc, files)?, inputs);
+    let mut inputs = MemInputs::new(alloc, files, inputs);
     let mut out = MemSink::new(alloc, out, piece);
     let mut errors = MemSink::new(alloc, errors, piece);
     let status = simlod_plain(alloc, words.as_slice(), &mut inputs, &mut out, &mut errors);
@@ -73,7 +83,8 @@ fn words_of(alloc: Global, line: &str) -> Result<Vec<String>, AllocError> {
     Ok(words)
 }
 
-fn files_of(alloc: Global, files: &[(&str, &str)]) -> Result<Vec<NamedFile>, AllocError> {
+/// Files of these names and texts.
+pub fn files_of(alloc: Global, files: &[(&str, &str)]) -> Result<Vec<NamedFile>, AllocError> {
     let mut named = Vec::new(alloc);
     for (name, text) in files {
         named.push(NamedFile {

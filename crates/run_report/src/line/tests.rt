@@ -60,41 +60,53 @@ fn lines_that_name_no_file(rt: HostRuntime) -> Result<(), Fail> {
     Ok(())
 }
 
+/// Asserts the line of a batch that is refused for this cause.
+fn expect_refused(
+    rt: &impl Abort,
+    alloc: Global,
+    cause: Cause,
+    want: &str,
+) -> Result<(), AllocError> {
+    expect_line(rt, alloc, &refused(cause), want)
+}
+
 #[test]
 fn lines_of_refused_batches(rt: HostRuntime) -> Result<(), Fail> {
-    let alloc = rt.alloc();
-    let fault = refused(Cause::Outside { at: 0 });
-    expect_line(&rt, alloc, &fault, "simlod: limit: batch 7 outside 0\n")?;
-    let fault = refused(Cause::Points {
-        at: 1,
-        admitted: 20,
-        n: 300,
-        most: 310,
-    });
-    expect_line(
-        &rt,
-        alloc,
-        &fault,
-        "simlod: limit: batch 7 points 1 20 300 310\n",
-    )?;
-    let fault = refused(Cause::Chunks {
-        at: 2,
-        need: 30,
-        free: 10,
-        held: 5,
-    });
-    expect_line(
-        &rt,
-        alloc,
-        &fault,
-        "simlod: limit: batch 7 chunks 2 30 10 5\n",
-    )?;
-    let fault = refused(Cause::Nodes {
-        at: 1,
-        need: 9,
-        most: 8,
-    });
-    expect_line(&rt, alloc, &fault, "simlod: limit: batch 7 nodes 1 9 8\n")?;
+    let rows = [
+        (
+            Cause::Outside { at: 0 },
+            "simlod: limit: batch 7 outside 0\n",
+        ),
+        (
+            Cause::Points {
+                at: 1,
+                admitted: 20,
+                n: 300,
+                most: 310,
+            },
+            "simlod: limit: batch 7 points 1 20 300 310\n",
+        ),
+        (
+            Cause::Chunks {
+                at: 2,
+                need: 30,
+                free: 10,
+                held: 5,
+            },
+            "simlod: limit: batch 7 chunks 2 30 10 5\n",
+        ),
+        (
+            Cause::Nodes {
+                at: 1,
+                need: 9,
+                most: 8,
+            },
+            "simlod: limit: batch 7 nodes 1 9 8\n",
+        ),
+    ];
+    for (cause, want) in rows {
+        expect_refused(&rt, rt.alloc(), cause, want)?;
+    }
     Ok(())
 }
 

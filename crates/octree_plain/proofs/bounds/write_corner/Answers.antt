@@ -2,7 +2,6 @@ use Rattle.std.proofs.Common.{◌≡◌, ℕ, ◌++◌, List, OnOk, codes, strin
 use Rattle.std.specs.Fmt.{signed_decimal}
 use Rattle.std.proofs.lemmas.Int.{to_z-of_z}
 use Rattle.octree_plain.specs.Listing.{line_feed}
-use Rattle.octree_plain.specs.Bounds.{corner_line}
 use Rattle.octree_plain.proofs.bounds.write_corner.Goals as goal
 use mir.Val.{SFits}
 

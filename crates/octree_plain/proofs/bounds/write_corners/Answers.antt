@@ -2,7 +2,6 @@ use Rattle.std.proofs.Common.{◌≡◌, ℕ, ◌==◌, ◌++◌, List, [], fals
 use Rattle.std.proofs.lemmas.Int.{to_z-of_z}
 use Rattle.cube_math.specs.Points.{PointValue}
 use Rattle.octree_plain.specs.Bounds.{corner_line, corner_lines, least_line, greatest_line}
-use Rattle.octree_plain.specs.Fitting.{on_x, on_y, on_z, least_of, greatest_of}
 use Rattle.octree_plain.proofs.bounds.write_corners.Goals as goal
 use mir.Val.{SFits}
 

@@ -1,4 +1,4 @@
-use Rattle.std.proofs.Common.{◌≡◌, ◌∙◌, ap, Some}
+use Rattle.std.proofs.Common.{◌∙◌, ap, Some}
 use Rattle.las_points.specs.Clouds.{CloudValue}
 use Rattle.simlod_app.proofs.Files.{frame_read}
 use Rattle.simlod_app.proofs.scan.parse_las.Goals as goal

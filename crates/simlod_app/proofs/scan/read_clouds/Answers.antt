@@ -1,4 +1,4 @@
-use Rattle.std.proofs.Common.{◌≡◌, ◌+◌, ◌≤◌, ◌∙◌, ◌++◌, ◌∷◌, [], sym, ap, subst, map, take, drop, List, ℕ, arith, string_bytes, vec_items, Option, Ok}
+use Rattle.std.proofs.Common.{◌≡◌, ◌+◌, ◌∙◌, ◌++◌, ◌∷◌, [], sym, ap, subst, map, take, drop, List, arith, string_bytes, vec_items, Option, Ok}
 use Rattle.std.specs.Prelude.{option_map}
 use Rattle.std.proofs.lemmas.Result.{err_from_is_err_and}
 use Rattle.std.proofs.lemmas.List.{map-append, take_all}
@@ -8,7 +8,7 @@ use Rattle.run_words.specs.Commands.{Text}
 use Rattle.simlod_app.specs.Dues.{IsDue, frame_step}
 use Rattle.simlod_app.specs.Outcomes.{AreSources, IsReached}
 use Rattle.simlod_app.specs.Runs.{Source, Framed, clouds_of}
-use Rattle.simlod_app.proofs.Readings.{AreRead, none_read, all_read, sources, are_sources, refused_next, refused_frame, one_more_read, split_names, one_name_more, rose_later, told_as_before}
+use Rattle.simlod_app.proofs.Readings.{AreRead, all_read, sources, are_sources, refused_next, refused_frame, one_more_read, split_names, one_name_more, rose_later, told_as_before}
 use Rattle.simlod_app.proofs.scan.read_clouds.Goals as goal
 
 pub returns-in_err-cloud-clause-gives : goal.returns-in_err-cloud-clause-gives

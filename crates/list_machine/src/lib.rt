@@ -7,5 +7,5 @@ mod tests;
 mod views;
 mod words;
 
-pub use views::Grant;
+pub use views::{Book, Claim, Fact, Grant, Guest, Leaf, LinkWord, Owner, Stage};
 pub use words::{Claimed, claim, clear, file, item_of, link, mark, shut, word_is_value_and_bit};

@@ -1,0 +1,158 @@
+-- The steps of the seats: what each does to the words and to the views.
+use Rattle.std.specs.Prelude.{◌≡◌, ◌≢◌, ℕ, zero, suc, ◌+◌, ◌*◌, ◌-◌, ◌<◌, ◌≤◌, ◌^◌, ◌⊎◌, Bool, true, false, if◌then◌else◌, ◌==◌, ◌&&◌, nat_lt, not, List, [], ◌∷◌, ◌++◌, length, slice_index, slice_set, filter}
+use Rattle.list_machine.specs.Words.{Word, word, blank, one_more, raised, holding, link_to}
+use Rattle.list_machine.specs.State.{Words, link_at, put_claim, put_slot, put_link}
+use Rattle.list_machine.specs.Facts.{IsAt, total, HasChunk, chain_of, Chain, claimed_chain, owned_chain, LeadsTo, list_of, is_shut, left_in}
+use Rattle.list_machine.specs.Rule.{IsFree, Sound}
+use Rattle.list_machine.specs.declared.views.Grant.{Grant}
+use Rattle.list_machine.specs.declared.views.LinkWord.{LinkWord}
+use Rattle.list_machine.specs.declared.views.LinkWord.TheVariants.{OfList, OfChunk}
+use Rattle.list_machine.specs.declared.views.Fact.{Fact}
+use Rattle.list_machine.specs.declared.views.Fact.TheVariants.{Item, Link, Closed, Empty}
+use Rattle.list_machine.specs.declared.views.Stage.{Stage}
+use Rattle.list_machine.specs.declared.views.Stage.TheVariants.{Open, Swept, Cleared}
+use Rattle.list_machine.specs.declared.views.Leaf.{Leaf}
+use Rattle.list_machine.specs.declared.views.Book.{Book}
+use Rattle.list_machine.specs.declared.views.Owner.{Owner}
+use Rattle.list_machine.specs.declared.views.Claim.{Claim}
+use Rattle.list_machine.specs.declared.views.Claim.TheVariants.{Nothing, Place}
+use Rattle.list_machine.specs.declared.views.Guest.{Guest}
+
+-- the words and all views at one moment; the seat j + 1 is the guest j
+pub record State : Type 0 where
+  pub words : Words
+  pub owner : Owner
+  pub guests : List Guest
+
+abbrev pub IsSound : State → Type 0
+IsSound s = Sound s.words s.owner s.guests
+
+-- Guests
+
+-- the grants with one less for the list
+abbrev pub use_of : ℕ → List Grant → List Grant
+use_of l [] = []
+use_of l (g ∷ gs) = if g.list == l && nat_lt 0 g.n then record { list = g.list; n = g.n - 1 } ∷ gs else g ∷ use_of l gs
+
+-- a guest with another claim and other facts
+abbrev pub knowing : Guest → Claim → List Fact → Guest
+knowing v claim facts = record { out = v.out; birth = v.birth; grants = v.grants; claim = claim; facts = facts }
+
+-- a guest that has claimed in the list, whose claim word was x: it has the place, or knows that the list is shut
+abbrev pub after_claim : Guest → ℕ → Word → Guest
+after_claim v l x = record {
+  out = v.out;
+  birth = v.birth;
+  grants = use_of l v.grants;
+  claim = if x.high then Nothing else Place l x.value;
+  facts = if x.high then Closed l ∷ v.facts else v.facts;
+}
+
+-- the guest knows that the list has the chunk at this rank of its claimed chain
+abbrev pub KnowsChunk : Guest → ℕ → ℕ → ℕ → Type 0
+KnowsChunk v l r c = (k : ℕ) × (from : LinkWord) × IsAt v.facts k (Link l from r c)
+
+-- the guest knows by itself that it reaches the list
+abbrev pub KnowsList : Guest → ℕ → Type 0
+KnowsList v l = (0 < left_in l v.grants) ⊎ (((i : ℕ) × (v.claim ≡ Place l i)) ⊎ ((k : ℕ) × (f : Fact) × IsAt v.facts k f × (list_of f ≡ l)))
+
+-- the guest knows that the link word is one of the list's, and leads to the rank r
+abbrev pub KnowsLink : Guest → ℕ → LinkWord → ℕ → Type 0
+KnowsLink v l OfList r = KnowsList v l × (r ≡ 0)
+KnowsLink v l (OfChunk b) r = (q : ℕ) × (r ≡ suc q) × KnowsChunk v l q b
+
+-- The owner
+
+abbrev pub with_leaf : Owner → ℕ → Leaf → Owner
+with_leaf o l a = record { book = record { leaves = slice_set o.book.leaves l a; order = o.book.order; cleared = o.book.cleared }; out = o.out; facts = o.facts }
+
+-- the owner knows one more fact
+abbrev pub learning : Owner → Fact → Owner
+learning o f = record { book = o.book; out = o.out; facts = f ∷ o.facts }
+
+abbrev pub with_stage : Leaf → Stage → Leaf
+with_stage a t = record { claimed = a.claimed; owned = a.owned; granted = a.granted; used = a.used; stage = t }
+
+abbrev pub with_claimed : Leaf → ℕ → Leaf
+with_claimed a c = record { claimed = a.claimed ++ c ∷ []; owned = a.owned; granted = a.granted; used = a.used; stage = a.stage }
+
+abbrev pub with_owned : Leaf → ℕ → Leaf
+with_owned a c = record { claimed = a.claimed; owned = a.owned ++ c ∷ []; granted = a.granted; used = a.used; stage = a.stage }
+
+abbrev pub with_one_used : Leaf → Leaf
+with_one_used a = record { claimed = a.claimed; owned = a.owned; granted = a.granted; used = suc a.used; stage = a.stage }
+
+abbrev pub with_grant : Leaf → ℕ → Leaf
+with_grant a n = record { claimed = a.claimed; owned = a.owned; granted = a.granted + n; used = a.used; stage = a.stage }
+
+abbrev pub without_chains : Leaf → Leaf
+without_chains a = record { claimed = []; owned = []; granted = a.granted; used = a.used; stage = a.stage }
+
+-- the owner has shut the list, whose claim count was found
+abbrev pub after_shut : Owner → ℕ → Leaf → ℕ → Owner
+after_shut o l a found = record {
+  book = record { leaves = slice_set o.book.leaves l (with_stage a (Swept (length o.book.order) found 0)); order = o.book.order ++ l ∷ []; cleared = o.book.cleared };
+  out = o.out ++ 0 ∷ [];
+  facts = Closed l ∷ o.facts;
+}
+
+-- what a mark shows of a slot
+abbrev pub mark_shows : ℕ → ℕ → ℕ → Word → Fact
+mark_shows l c k x = if nat_lt 0 x.value then Item l c k (x.value - 1) else Empty l c k
+
+-- whether the fact may be known of the list once its clearing has begun
+abbrev pub is_kept : ℕ → Fact → Bool
+is_kept l (Item h c k x) = not (h == l)
+is_kept l (Link h from r c) = not (h == l)
+is_kept l (Closed h) = true
+is_kept l (Empty h c k) = not (h == l)
+
+-- the owner has begun to clear the list
+abbrev pub after_first_clear : Owner → ℕ → Leaf → Owner
+after_first_clear o l a = record {
+  book = record { leaves = slice_set o.book.leaves l (with_stage a (Cleared o.book.cleared 1)); order = o.book.order; cleared = suc o.book.cleared };
+  out = o.out;
+  facts = filter (is_kept l) o.facts;
+}
+
+-- Making seats and taking them back
+
+abbrev pub leaves_after_grants : ℕ → List Leaf → List Grant → List Leaf
+leaves_after_grants l [] gs = []
+leaves_after_grants l (a ∷ es) gs = with_grant a (left_in l gs) ∷ leaves_after_grants (suc l) es gs
+
+-- whether the list of a fact is open
+abbrev pub is_open_at : List Leaf → ℕ → Bool
+is_open_at [] l = false
+is_open_at (a ∷ es) zero = not (is_shut a.stage)
+is_open_at (a ∷ es) (suc l) = is_open_at es l
+
+-- the facts about the lists that are not shut
+abbrev pub open_facts : List Leaf → List Fact → List Fact
+open_facts leaves facts = filter (λ f. is_open_at leaves (list_of f)) facts
+
+-- the owner has made a seat with these grants
+abbrev pub after_split : Owner → List Grant → Owner
+after_split o gs =
+    let shuts = length o.book.order in
+    record {
+      book = record { leaves = leaves_after_grants 0 o.book.leaves gs; order = o.book.order; cleared = o.book.cleared };
+      out = slice_set o.out shuts (suc (slice_index o.out shuts));
+      facts = o.facts;
+    }
+
+abbrev pub newcomer : Owner → List Grant → Guest
+newcomer o gs = record { out = true; birth = length o.book.order; grants = gs; claim = Nothing; facts = open_facts o.book.leaves o.facts }
+
+-- grants that the owner may give: in open lists, for places that have their chunks
+pub record IsGrantable (leaves : List Leaf) (gs : List Grant) : Type 0 where
+  pub lists : (l : ℕ) → 0 < left_in l gs → (a : Leaf) × IsAt leaves l a × (a.stage ≡ Open) × (a.granted + left_in l gs ≤ 256 * length a.claimed)
+  pub few : total (λ (a : Leaf). a.granted) (leaves_after_grants 0 leaves gs) < 2 ^ 31
+
+-- a seat that was taken back
+abbrev pub nobody : Guest
+nobody = record { out = false; birth = 0; grants = []; claim = Nothing; facts = [] }
+
+-- the owner has taken the seat back
+abbrev pub after_join : Owner → Guest → Owner
+after_join o v = record { book = o.book; out = slice_set o.out v.birth (slice_index o.out v.birth - 1); facts = v.facts ++ o.facts }

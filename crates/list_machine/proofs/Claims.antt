@@ -21,6 +21,7 @@ use Rattle.list_machine.proofs.Puts.{put_here, putting}
 use Rattle.list_machine.proofs.Lists.{at_same, at_set, at_set_same, set_again, total_set}
 use Rattle.list_machine.proofs.Frames.{lists_frame_same, known_frame, must_be_out, StaysIn}
 use Rattle.list_machine.proofs.Changes.{claim_elsewhere}
+use Rattle.list_machine.proofs.Stages.{is_open, as_open}
 use Rattle.list_machine.proofs.Guests.{guest_known, guest_counted, more_facts}
 use Rattle.list_machine.proofs.Grants.{used_here, used_else}
 
@@ -121,3 +122,26 @@ module _ (w : Words) (o : Owner) (guests : List Guest) (s : Sound w o guests) (j
         (λ i h k u ne p q q'. let is = only h k q in at_set guests j i spending u ⊥ p (λ e _. ne e) (λ _ old. let b = ((s.known.seats i u old).claim h k q').2.below in let e : (w.claim h).value ≡ x.value = ap (λ (g : ℕ). (w.claim g).value) is.0 in let e' = is.1 in omega arith)));
     counted = guest_counted _ _ o.out guests j v (ending c fs) s.counted at refl refl;
   }
+
+  -- the place that a claim in an open list gives
+  place : x.high ≡ false → OfLeaf leaves l (IsClaimed (w'.claim l) w'.slot v.birth x.value)
+  place low = let list = s.shape.lists.lists l reach.0 leaf in let unshut = is_open reach.0.stage (sym list.shown ∙ low) in let z = as_open x (w.first l) w.next w.slot reach.0 unshut list in
+      (reach.0, leaf, record {
+        reached = reach.2;
+        below = subst (λ (y : Word). x.value < y.value) (sym (put_here w.claim l (one_more x))) (omega arith);
+        vacant = λ r c k p lt is. dite (ℕ_discrete (w.slot c k).value 0) (λ e. e) (λ ne. let b = z.0.filled r c k p lt ne in absurd (omega arith));
+        before = λ p f m st. let e : Open ≡ Swept p f m = sym unshut ∙ st in absurd (cc);
+      })
+
+  claims_by : (b : Bool) → x.high ≡ b → Sound w' o (set guests j (ending (cond b Nothing (Place l x.value)) (cond b (Closed l ∷ v.facts) v.facts)))
+  claims_by false low = claims_as (Place l x.value) v.facts
+      (λ h k e. let e0 : l ≡ h = cc in let e1 : x.value ≡ k = cc in subst (λ (z : ℕ × ℕ). OfLeaf leaves z.0 (IsClaimed (w'.claim z.0) w'.slot v.birth z.1)) (λ t. (e0 t, e1 t)) (place low))
+      (λ h k e. let e0 : l ≡ h = cc in let e1 : x.value ≡ k = cc in (sym e0, sym e1))
+      (counted_one.seats j spending spending_at).facts
+  claims_by true high = claims_as Nothing (Closed l ∷ v.facts) (λ h k e. absurd (cc)) (λ h k e. absurd (cc))
+      (more_facts {F = λ f. OfLeaf leaves (list_of f) (IsStated w' v.birth f)} (Closed l) v.facts
+      (reach.0, leaf, record { reached = reach.2; within = tt; holds = subst (λ (y : Word). y.high ≡ true) (sym (put_here w.claim l (one_more x))) high })
+      (counted_one.seats j spending spending_at).facts)
+
+  pub claims : Sound w' o (set guests j (after_claim v l x))
+  claims = claims_by x.high refl

@@ -7,6 +7,8 @@ use Rattle.list_machine.specs.Rule.{OfLeaf, IsStated, IsSeat, IsOwned, AreKnown,
 use Rattle.list_machine.specs.declared.views.Fact.{Fact}
 use Rattle.list_machine.specs.declared.views.Leaf.{Leaf}
 use Rattle.list_machine.specs.declared.views.Claim.TheVariants.{Place}
+use Rattle.list_machine.specs.declared.views.Claim.{Claim}
+use Rattle.list_machine.specs.Steps.{knowing}
 use Rattle.list_machine.specs.declared.views.Guest.{Guest}
 use Rattle.list_machine.proofs.Lists.{at_set, each_set, total_set, total_same}
 
@@ -40,3 +42,10 @@ owner_knows w leaves facts facts' guests s known = record { seats = s.seats; own
 
 pub owner_learns : (w : Words) (leaves : List Leaf) (facts : List Fact) (guests : List Guest) (f : Fact) → AreKnown w leaves facts guests → OfLeaf leaves (list_of f) (IsOwned w f) → AreKnown w leaves (f ∷ facts) guests
 owner_learns w leaves facts guests f s new = owner_knows w leaves facts (f ∷ facts) guests s (more_facts {F = λ g. OfLeaf leaves (list_of g) (IsOwned w g)} f facts new s.owner)
+
+-- a guest that is out knows these facts now, and has kept or ended its claim
+pub guest_learns : (w : Words) (leaves : List Leaf) (facts : List Fact) (guests : List Guest) (i : ℕ) (v : Guest) (c : Claim) (fs : List Fact) → AreKnown w leaves facts guests → IsAt guests i v → v.out ≡ true
+    → ((h k : ℕ) → c ≡ Place h k → v.claim ≡ Place h k) → ((k : ℕ) (f : Fact) → IsAt fs k f → OfLeaf leaves (list_of f) (IsStated w v.birth f)) → AreKnown w leaves facts (set guests i (knowing v c fs))
+guest_learns w leaves facts guests i v c fs s at out keep known = let mine = s.seats i v at in guest_known w leaves facts guests i v (knowing v c fs) s at
+    (record { facts = known; grants = mine.grants; claim = λ h k e. mine.claim h k (keep h k e); spent = λ is. let e : true ≡ false = sym out ∙ is in absurd (cc) })
+    (λ l. omega arith) (λ j l k u ne p e e'. ne (s.apart j i l k u v p at e' (keep l k e)))

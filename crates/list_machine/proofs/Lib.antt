@@ -5,4 +5,6 @@ pub mod Frames
 pub mod Changes
 pub mod Guests
 pub mod Grants
+pub mod Stages
 pub mod Claims
+pub mod Fills

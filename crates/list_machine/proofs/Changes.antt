@@ -31,3 +31,12 @@ link_elsewhere w l a (OfChunk b) r n to = record {
   nexts = λ c never. put_else w.next b n c (λ e. never (claimed_chain, to.0, subst (λ (d : ℕ). IsAt a.claimed to.0 d) (sym e) to.2));
   slots = λ c k never. refl;
 }
+
+-- the link of a chunk, whichever chain has it
+pub next_elsewhere : (w : Words) (l : ℕ) (a : Leaf) (b n : ℕ) → HasChunk a b → Elsewhere w (put_link w l (OfChunk b) n) l a
+next_elsewhere w l a b n has = record {
+  claims = λ h ne. refl;
+  firsts = λ h ne. refl;
+  nexts = λ c never. put_else w.next b n c (λ e. never (subst (HasChunk a) (sym e) has));
+  slots = λ c k never. refl;
+}

@@ -8,3 +8,11 @@ pub mod Grants
 pub mod Stages
 pub mod Claims
 pub mod Fills
+pub mod Shuts
+pub mod Marks
+pub mod LinkReads
+pub mod Links
+pub mod Seats
+pub mod Clears
+pub mod Keeping
+pub mod Knowledge

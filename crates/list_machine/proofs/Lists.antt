@@ -1,6 +1,6 @@
 -- Lists read by place, with one item changed or one more, and sums over them.
-use Rattle.std.proofs.Common.{◌≡◌, ℕ, zero, suc, ◌+◌, ◌<◌, ◌≢◌, ◌⊎◌, inl, inr, List, [], ◌∷◌, ◌++◌, length, get_or, set, sym, refl, ap, ◌∙◌, subst, arith}
-use Rattle.std.specs.Prelude.{Some, None}
+use Rattle.std.proofs.Common.{◌≡◌, ℕ, zero, suc, ◌+◌, ◌<◌, ◌≢◌, ◌⊎◌, inl, inr, Bool, true, false, cond, List, [], ◌∷◌, ◌++◌, length, get_or, set, sym, refl, ap, ◌∙◌, subst, arith}
+use Rattle.std.specs.Prelude.{Some, None, filter}
 use Rattle.std.proofs.lemmas.Option.{none-some, same_Some}
 use mathlib.Core.Logic.{dite}
 use native.Mathlib.Decide.{ℕ_discrete}
@@ -87,6 +87,15 @@ module _ {A : Type 0} where
   pub total_more : (f : A → ℕ) (l : List A) (x : A) → total f (l ++ x ∷ []) ≡ total f l + f x
   total_more f [] x = omega arith
   total_more f (y ∷ ys) x = let h = total_more f ys x in omega arith
+
+-- an item that a filter keeps
+pub at_filter : {A : Type 0} (test : A → Bool) (xs : List A) (k : ℕ) (x : A) → IsAt (filter test xs) k x → (q : ℕ) × IsAt xs q x × (test x ≡ true)
+at_filter test [] k x p = absurd (none-some x p)
+at_filter {A} test (y ∷ ys) k x p = by (test y) refl k p (λ k p. at_filter test ys k x p) where
+  by : (b : Bool) → test y ≡ b → (k : ℕ) → IsAt (cond b (y ∷ filter test ys) (filter test ys)) k x → ((k : ℕ) → IsAt (filter test ys) k x → (q : ℕ) × IsAt ys q x × (test x ≡ true)) → (q : ℕ) × IsAt (y ∷ ys) q x × (test x ≡ true)
+  by true is zero p more = (0, p, ap test (sym (same_Some y x p)) ∙ is)
+  by true is (suc k) p more = let r = more k p in (suc r.0, r.1, r.2)
+  by false is k p more = let r = more k p in (suc r.0, r.1, r.2)
 
 -- a number is in a list, or it is not
 pub found_in : (xs : List ℕ) (d : ℕ) → ((r : ℕ) × IsAt xs r d) ⊎ ((r : ℕ) → IsAt xs r d → ⊥)

@@ -33,6 +33,14 @@ put_claim w l x = record { claim = put w.claim l x; first = w.first; next = w.ne
 abbrev pub put_slot : Words → ℕ → ℕ → Word → Words
 put_slot w c k x = record { claim = w.claim; first = w.first; next = w.next; slot = put w.slot c (put (w.slot c) k x) }
 
+-- the first links, or the links of chunks, after a change of this link word
+abbrev pub first_with : (ℕ → ℕ) → ℕ → LinkWord → ℕ → ℕ → ℕ
+first_with first l OfList n = put first l n
+first_with first l (OfChunk b) n = first
+
+abbrev pub next_with : (ℕ → ℕ) → LinkWord → ℕ → ℕ → ℕ
+next_with next OfList n = next
+next_with next (OfChunk b) n = put next b n
+
 abbrev pub put_link : Words → ℕ → LinkWord → ℕ → Words
-put_link w l OfList n = record { claim = w.claim; first = put w.first l n; next = w.next; slot = w.slot }
-put_link w l (OfChunk b) n = record { claim = w.claim; first = w.first; next = put w.next b n; slot = w.slot }
+put_link w l from n = record { claim = w.claim; first = first_with w.first l from n; next = next_with w.next from n; slot = w.slot }

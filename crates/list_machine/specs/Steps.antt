@@ -18,15 +18,6 @@ use Rattle.list_machine.specs.declared.views.Claim.{Claim}
 use Rattle.list_machine.specs.declared.views.Claim.TheVariants.{Nothing, Place}
 use Rattle.list_machine.specs.declared.views.Guest.{Guest}
 
--- the words and all views at one moment; the seat j + 1 is the guest j
-pub record State : Type 0 where
-  pub words : Words
-  pub owner : Owner
-  pub guests : List Guest
-
-abbrev pub IsSound : State → Type 0
-IsSound s = Sound s.words s.owner s.guests
-
 -- Guests
 
 -- the grants with one less for the list
@@ -96,9 +87,22 @@ after_shut o l a found = record {
   facts = Closed l ∷ o.facts;
 }
 
+-- the place i of a chain is the next that a sweep marks
+abbrev pub IsNextMark : Leaf → ℕ → ℕ → Chain → ℕ → Type 0
+IsNextMark a found marks claimed_chain i = (i ≡ marks) × (i < found)
+IsNextMark a found marks owned_chain i = (found + i ≡ marks) × (i < a.used)
+
 -- what a mark shows of a slot
 abbrev pub mark_shows : ℕ → ℕ → ℕ → Word → Fact
 mark_shows l c k x = if nat_lt 0 x.value then Item l c k (x.value - 1) else Empty l c k
+
+-- the clearing of the list before the cleared number has ended
+abbrev pub HasEnded : Book → Type 0
+HasEnded b = (l p n : ℕ) (a : Leaf) → IsAt b.leaves l a → a.stage ≡ Cleared p n → suc p ≡ b.cleared → (a.claimed ≡ []) × (a.owned ≡ [])
+
+-- nobody is out who reaches the next list to be cleared
+abbrev pub IsUnreached : Owner → Type 0
+IsUnreached o = (b : ℕ) → b ≤ o.book.cleared → slice_index o.out b ≡ 0
 
 -- whether the fact may be known of the list once its clearing has begun
 abbrev pub is_kept : ℕ → Fact → Bool

@@ -1,7 +1,7 @@
 -- A change of one word of a list leaves the words of the others.
-use Rattle.std.proofs.Common.{◌≡◌, ℕ, ◌≢◌, refl, subst, ap, ◌∙◌, sym, List}
+use Rattle.std.proofs.Common.{◌≡◌, ℕ, refl, subst, sym}
 use Rattle.list_machine.specs.Words.{Word}
-use Rattle.list_machine.specs.State.{Words, put_claim, put_slot, put_link, link_at}
+use Rattle.list_machine.specs.State.{Words, put_claim, put_slot, put_link}
 use Rattle.list_machine.specs.Facts.{IsAt, HasChunk, claimed_chain, LeadsTo}
 use Rattle.list_machine.specs.declared.views.LinkWord.{LinkWord}
 use Rattle.list_machine.specs.declared.views.LinkWord.TheVariants.{OfList, OfChunk}

@@ -1,24 +1,25 @@
 -- A claim keeps the rule.
-use Rattle.std.proofs.Common.{◌≡◌, ℕ, suc, ◌+◌, ◌-◌, ◌*◌, ◌<◌, ◌≤◌, ◌≢◌, Bool, true, false, cond, List, ◌∷◌, set, sym, refl, ap, ◌∙◌, subst, arith}
+use Rattle.std.proofs.Common.{◌≡◌, ℕ, suc, ◌+◌, ◌<◌, ◌≤◌, Bool, true, false, cond, List, ◌∷◌, set, sym, refl, ap, ◌∙◌, subst, arith}
 use mathlib.Core.Logic.{dite}
 use native.Mathlib.Decide.{ℕ_discrete}
 use lib.Seq.{set-set}
-use Rattle.list_machine.specs.Words.{Word, word, one_more}
+use Rattle.list_machine.specs.Words.{Word, one_more}
 use Rattle.list_machine.specs.State.{Words, put_claim}
-use Rattle.list_machine.specs.Facts.{IsAt, total, Holds, Within, list_of, is_shut, left_in, Stands, Reached}
-use Rattle.list_machine.specs.Rule.{IsStanding, HoldsAt, IsList, AreLists, AreKnown, OfLeaf, IsStated, IsClaimed, IsSeat, IsOwned, Sound}
+use Rattle.list_machine.specs.Facts.{IsAt, total, Holds, list_of, left_in, Reached}
+use Rattle.list_machine.specs.Rule.{IsStanding, HoldsAt, IsList, AreLists, AreKnown, OfLeaf, IsStated, IsClaimed, IsSeat, Shape, Sound}
 use Rattle.list_machine.specs.Steps.{use_of, after_claim}
 use Rattle.list_machine.specs.declared.views.Fact.TheVariants.{Item, Link, Closed, Empty}
 use Rattle.list_machine.specs.declared.views.Fact.{Fact}
 use Rattle.list_machine.specs.declared.views.Stage.TheVariants.{Open, Swept, Cleared}
 use Rattle.list_machine.specs.declared.views.Stage.{Stage}
-use Rattle.list_machine.specs.declared.views.Claim.TheVariants.{Nothing, Place}
-use Rattle.list_machine.specs.declared.views.Claim.{Claim}
+use Rattle.list_machine.specs.declared.views.Unfiled.TheVariants.{Nothing, Place}
+use Rattle.list_machine.specs.declared.views.Unfiled.{Unfiled}
 use Rattle.list_machine.specs.declared.views.Leaf.{Leaf}
+use Rattle.list_machine.specs.declared.views.Book.{Book}
 use Rattle.list_machine.specs.declared.views.Owner.{Owner}
 use Rattle.list_machine.specs.declared.views.Guest.{Guest}
 use Rattle.list_machine.proofs.Puts.{put_here, putting}
-use Rattle.list_machine.proofs.Lists.{at_same, at_set, at_set_same, set_again, total_set}
+use Rattle.list_machine.proofs.Lists.{at_set, at_set_same, set_again, total_set}
 use Rattle.list_machine.proofs.Frames.{lists_frame_same, known_frame, must_be_out, StaysIn}
 use Rattle.list_machine.proofs.Changes.{claim_elsewhere}
 use Rattle.list_machine.proofs.Stages.{is_open, as_open}
@@ -42,6 +43,16 @@ more_claims x first next slot a few y = record { counted = few; shown = y.shown;
   by Open z = (standing z.0, z.1)
   by (Swept p f m) z = (standing z.0, record { marked = z.1.marked; marked_owned = z.1.marked_owned; past = z.1.past; within_claims = let b = z.1.within_claims in omega arith; within_slots = z.1.within_slots })
   by (Cleared p n) z = z
+
+-- a claim where a place is left keeps what holds of the lists
+pub claim_shape : (w : Words) (b : Book) → Shape w b → (l : ℕ) (a : Leaf) → IsAt b.leaves l a → suc (w.claim l).value ≤ a.granted → Shape (put_claim w l (one_more (w.claim l))) b
+claim_shape w b sh l a leaf few = record {
+  lists = subst (AreLists (put_claim w l (one_more (w.claim l)))) (set_again b.leaves l a leaf)
+      (lists_frame_same w (put_claim w l (one_more (w.claim l))) b.leaves l a a sh.lists leaf (claim_elsewhere w l a (one_more (w.claim l))) (λ y r c p. p) (λ c p. p)
+      (subst (λ (y : Word). IsList y (w.first l) w.next w.slot a) (sym (put_here w.claim l (one_more (w.claim l))))
+      (more_claims (w.claim l) (w.first l) w.next w.slot a few (sh.lists.lists l a leaf))) refl);
+  order = sh.order;
+}
 
 module _ (w : Words) (o : Owner) (guests : List Guest) (s : Sound w o guests) (j l : ℕ) (v : Guest) (at : IsAt guests j v) (idle : v.claim ≡ Nothing) (has : 0 < left_in l v.grants) where
   abbrev x : Word
@@ -86,12 +97,6 @@ module _ (w : Words) (o : Owner) (guests : List Guest) (s : Sound w o guests) (j
   holds_on : (f : Fact) → Holds w f → Holds w' f
   holds_on f t = claim_word_holds w l (one_more x) f (λ e. e) t
 
-  lists' : AreLists w' leaves
-  lists' = subst (AreLists w') (set_again leaves l reach.0 leaf)
-      (lists_frame_same w w' leaves l reach.0 reach.0 s.shape.lists leaf (claim_elsewhere w l reach.0 (one_more x)) (λ y r c p. p) (λ c p. p)
-      (subst (λ (y : Word). IsList y (w.first l) w.next w.slot reach.0) (sym (put_here w.claim l (one_more x)))
-      (more_claims x (w.first l) w.next w.slot reach.0 (let b = few in omega arith) (s.shape.lists.lists l reach.0 leaf))) refl)
-
   stays : (i : ℕ) (u : Guest) → IsAt before i u → u.out ≡ true → Reached u.birth reach.0.stage → StaysIn w w' l reach.0 reach.0 u
   stays i u p is reached = record {
     reached = reached;
@@ -105,16 +110,16 @@ module _ (w : Words) (o : Owner) (guests : List Guest) (s : Sound w o guests) (j
       (subst (λ (y : Word). y.value + total (λ (u : Guest). left_in l u.grants) before ≤ reach.0.granted) (sym (put_here w.claim l (one_more x))) few))
 
   -- the seat ends with this claim and these facts
-  abbrev ending : Claim → List Fact → Guest
+  abbrev ending : Unfiled → List Fact → Guest
   ending c fs = record { out = v.out; birth = v.birth; grants = use_of l v.grants; claim = c; facts = fs }
 
   spending_at : IsAt before j spending
   spending_at = at_set_same guests j v spending at
 
-  claims_as : (c : Claim) (fs : List Fact) → ((h k : ℕ) → c ≡ Place h k → OfLeaf leaves h (IsClaimed (w'.claim h) w'.slot v.birth k)) → ((h k : ℕ) → c ≡ Place h k → (h ≡ l) × (k ≡ x.value))
+  claims_as : (c : Unfiled) (fs : List Fact) → ((h k : ℕ) → c ≡ Place h k → OfLeaf leaves h (IsClaimed (w'.claim h) w'.slot v.birth k)) → ((h k : ℕ) → c ≡ Place h k → (h ≡ l) × (k ≡ x.value))
       → ((k : ℕ) (f : Fact) → IsAt fs k f → OfLeaf leaves (list_of f) (IsStated w' v.birth f)) → Sound w' o (set guests j (ending c fs))
   claims_as c fs claimed only known = let y = counted_one.seats j spending spending_at in record {
-    shape = record { lists = lists'; order = s.shape.order };
+    shape = claim_shape w o.book s.shape l reach.0 leaf (let b = few in omega arith);
     known = subst (AreKnown w' leaves o.facts) (set-set guests j spending (ending c fs))
         (guest_known w' leaves o.facts before j spending (ending c fs) counted_one spending_at
         (record { facts = known; grants = y.grants; claim = claimed; spent = λ e. let z = sym out ∙ e in absurd (cc) })
@@ -125,13 +130,16 @@ module _ (w : Words) (o : Owner) (guests : List Guest) (s : Sound w o guests) (j
 
   -- the place that a claim in an open list gives
   place : x.high ≡ false → OfLeaf leaves l (IsClaimed (w'.claim l) w'.slot v.birth x.value)
-  place low = let list = s.shape.lists.lists l reach.0 leaf in let unshut = is_open reach.0.stage (sym list.shown ∙ low) in let z = as_open x (w.first l) w.next w.slot reach.0 unshut list in
-      (reach.0, leaf, record {
-        reached = reach.2;
-        below = subst (λ (y : Word). x.value < y.value) (sym (put_here w.claim l (one_more x))) (omega arith);
-        vacant = λ r c k p lt is. dite (ℕ_discrete (w.slot c k).value 0) (λ e. e) (λ ne. let b = z.0.filled r c k p lt ne in absurd (omega arith));
-        before = λ p f m st. let e : Open ≡ Swept p f m = sym unshut ∙ st in absurd (cc);
-      })
+  place low = let list = s.shape.lists.lists l reach.0 leaf in let unshut = is_open reach.0.stage (sym list.shown ∙ low) in let z = as_open x (w.first l) w.next w.slot reach.0 unshut list in (
+    reach.0,
+    leaf,
+    record {
+      reached = reach.2;
+      below = subst (λ (y : Word). x.value < y.value) (sym (put_here w.claim l (one_more x))) (omega arith);
+      vacant = λ r c k p lt is. dite (ℕ_discrete (w.slot c k).value 0) (λ e. e) (λ ne. let b = z.0.filled r c k p lt ne in absurd (omega arith));
+      before = λ p f m st. let e : Open ≡ Swept p f m = sym unshut ∙ st in absurd (cc);
+    },
+  )
 
   claims_by : (b : Bool) → x.high ≡ b → Sound w' o (set guests j (ending (cond b Nothing (Place l x.value)) (cond b (Closed l ∷ v.facts) v.facts)))
   claims_by false low = claims_as (Place l x.value) v.facts

@@ -1,12 +1,12 @@
 -- Clearing a list, word by word, and giving its chunks back keep the rule.
-use Rattle.std.proofs.Common.{◌≡◌, ℕ, zero, suc, ◌+◌, ◌*◌, ◌<◌, ◌≤◌, ◌≢◌, ◌⊎◌, inl, inr, ⊎_elim, Bool, true, false, List, [], ◌∷◌, ◌++◌, length, get_or, set, sym, refl, ap, ◌∙◌, subst, arith, nat_eq, eq-eqb}
+use Rattle.std.proofs.Common.{◌≡◌, ℕ, suc, ◌+◌, ◌*◌, ◌<◌, ◌≤◌, ◌≢◌, inr, ⊎_elim, true, false, List, [], ◌++◌, length, set, sym, refl, ap, ◌∙◌, subst, arith, nat_eq, eq-eqb}
 use Rattle.std.specs.Prelude.{Some, not, filter}
 use mathlib.Core.Logic.{dite}
 use native.Mathlib.Decide.{ℕ_discrete}
 use Rattle.list_machine.specs.Words.{Word, blank}
-use Rattle.list_machine.specs.State.{Words, put, put_slot, put_link}
-use Rattle.list_machine.specs.Facts.{IsAt, Chain, claimed_chain, owned_chain, chain_of, HasChunk, list_of, Holds, Within, is_shut, place_of, Stands, Reached}
-use Rattle.list_machine.specs.Rule.{IsWiped, HoldsAt, IsList, IsBegun, AreLists, AreOrdered, OfLeaf, IsOwned, AreKnown, AreCounted, Sound}
+use Rattle.list_machine.specs.State.{Words, put_slot, put_link}
+use Rattle.list_machine.specs.Facts.{IsAt, Chain, claimed_chain, owned_chain, chain_of, list_of, Holds, is_shut, place_of, Stands, Reached}
+use Rattle.list_machine.specs.Rule.{IsWiped, HoldsAt, IsList, IsBegun, AreOrdered, IsOwned, AreKnown, Sound}
 use Rattle.list_machine.specs.Steps.{with_leaf, with_stage, without_chains, after_first_clear, is_kept, HasEnded, IsUnreached}
 use Rattle.list_machine.specs.declared.views.LinkWord.TheVariants.{OfList, OfChunk}
 use Rattle.list_machine.specs.declared.views.Fact.{Fact}
@@ -19,7 +19,7 @@ use Rattle.list_machine.specs.declared.views.Guest.{Guest}
 use Rattle.list_machine.proofs.Puts.{put_here, putting, putting_slot}
 use Rattle.list_machine.proofs.Lists.{at_same, at_set, each_set, at_set_same, at_set_other, at_below, at_left, at_right, at_nothing, at_filter}
 use Rattle.list_machine.proofs.Stages.{stage_chain, stage_chain_was}
-use Rattle.list_machine.proofs.Frames.{Elsewhere, in_both, lists_frame, lists_frame_same, known_frame, order_frame, StaysIn}
+use Rattle.list_machine.proofs.Frames.{Elsewhere, in_both, lists_frame, lists_frame_same, known_frame, order_frame}
 use Rattle.list_machine.proofs.Changes.{same_elsewhere, slot_elsewhere, link_elsewhere, next_elsewhere}
 use Rattle.list_machine.proofs.Guests.{owner_knows}
 use Rattle.list_machine.proofs.Seats.{total_one}
@@ -80,8 +80,11 @@ module _ (w : Words) (o : Owner) (guests : List Guest) (s : Sound w o guests) (l
         (λ same d. let z : Some cleared ≡ Some p = ap (λ (x : Leaf). place_of x.stage) d ∙ is in let e0 : cleared ≡ p = cc in subst (λ (t : ℕ × ℕ). IsAt o.book.order t.0 t.1) (λ i. (e0 i, sym same i)) place_here)
         (λ ne old. y.places h p e old is);
     listed = λ p h at. let t = y.listed p h at in dite (ℕ_discrete h l)
-        (λ is. (a', subst (λ (g : ℕ). IsAt (set leaves l a') g a') (sym is) (at_set_same leaves l a a' leaf),
-        ap place_of (sym shut) ∙ (ap (λ (x : Leaf). place_of x.stage) (at_same leaves l a t.0 leaf (subst (λ (g : ℕ). IsAt leaves g t.0) is t.1)) ∙ t.2)))
+        (λ is. (
+          a',
+          subst (λ (g : ℕ). IsAt (set leaves l a') g a') (sym is) (at_set_same leaves l a a' leaf),
+          ap place_of (sym shut) ∙ (ap (λ (x : Leaf). place_of x.stage) (at_same leaves l a t.0 leaf (subst (λ (g : ℕ). IsAt leaves g t.0) is t.1)) ∙ t.2),
+        ))
         (λ ne. (t.0, at_set_other leaves l h a' t.0 ne t.1, t.2));
     begun = each_set (λ (h : ℕ) (e : Leaf). IsBegun (suc cleared) e.stage) leaves l a' (λ h e ne at. later_begun h e ne at e.stage refl (y.begun h e at)) (omega arith);
     ended = λ h p n e at st lt. at_set leaves l h a' e ((e.claimed ≡ []) × (e.owned ≡ [])) at

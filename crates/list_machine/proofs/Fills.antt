@@ -1,24 +1,23 @@
 -- A slot that was 0 gets an item.
-use Rattle.std.proofs.Common.{◌≡◌, ℕ, suc, ◌+◌, ◌*◌, ◌<◌, ◌≤◌, ◌≢◌, ◌⊎◌, inl, inr, ⊎_elim, Bool, true, false, List, ◌∷◌, length, set, sym, refl, ap, ◌∙◌, subst, arith}
-use mathlib.Core.Logic.{dite}
-use native.Mathlib.Decide.{ℕ_discrete}
+use Rattle.std.proofs.Common.{◌≡◌, ℕ, ◌+◌, ◌*◌, ◌<◌, ◌≢◌, inl, inr, ⊎_elim, true, false, List, ◌∷◌, set, sym, refl, ap, ◌∙◌, subst, arith}
 use lib.Seq.{set-set}
 use Rattle.list_machine.specs.Words.{Word, word, blank, holding}
 use Rattle.list_machine.specs.State.{Words, put, put_slot}
-use Rattle.list_machine.specs.Facts.{IsAt, total, Chain, claimed_chain, owned_chain, chain_of, HasChunk, Holds, Within, list_of, left_in, Stands, Reached}
-use Rattle.list_machine.specs.Rule.{IsStanding, IsUnmarked, IsSwept, HoldsAt, IsList, AreLists, AreKnown, OfLeaf, IsStated, IsClaimed, IsSeat, IsOwned, Sound}
-use Rattle.list_machine.specs.Steps.{knowing, KnowsChunk, with_leaf, with_one_used, learning}
+use Rattle.list_machine.specs.Facts.{IsAt, Chain, claimed_chain, owned_chain, chain_of, HasChunk, Holds, Within, list_of, Stands, Reached}
+use Rattle.list_machine.specs.Rule.{IsStanding, IsUnmarked, HoldsAt, IsList, AreLists, AreKnown, OfLeaf, IsStated, IsClaimed, IsSeat, Shape, Sound}
+use Rattle.list_machine.specs.Steps.{guest_with, KnowsChunk, with_leaf, with_one_used, with_fact}
 use Rattle.list_machine.specs.declared.views.Fact.TheVariants.{Item, Link, Closed, Empty}
 use Rattle.list_machine.specs.declared.views.Fact.{Fact}
 use Rattle.list_machine.specs.declared.views.Stage.TheVariants.{Open, Swept, Cleared}
 use Rattle.list_machine.specs.declared.views.Stage.{Stage}
-use Rattle.list_machine.specs.declared.views.Claim.TheVariants.{Nothing, Place}
+use Rattle.list_machine.specs.declared.views.Unfiled.TheVariants.{Nothing, Place}
 use Rattle.list_machine.specs.declared.views.Leaf.{Leaf}
+use Rattle.list_machine.specs.declared.views.Book.{Book}
 use Rattle.list_machine.specs.declared.views.Owner.{Owner}
 use Rattle.list_machine.specs.declared.views.Guest.{Guest}
 use Rattle.list_machine.proofs.Puts.{putting_slot}
 use Rattle.list_machine.proofs.Lists.{at_same, at_set, at_set_same, at_below, set_again}
-use Rattle.list_machine.proofs.Stages.{as_standing, as_open, marked_empty, within_more}
+use Rattle.list_machine.proofs.Stages.{as_open, marked_empty, within_more}
 use Rattle.list_machine.proofs.Frames.{lists_frame_same, known_frame, order_frame, must_be_out, stands_if, StaysIn}
 use Rattle.list_machine.proofs.Changes.{slot_elsewhere}
 use Rattle.list_machine.proofs.Guests.{guest_learns, guest_counted, more_facts, owner_learns}
@@ -112,6 +111,16 @@ module _ (claim : Word) (first : ℕ) (next : ℕ → ℕ) (slot : ℕ → ℕ �
 pub own_once : (w : Words) (leaves : List Leaf) (l : ℕ) (a : Leaf) → AreLists w leaves → IsAt leaves l a → OwnOnce a
 own_once w leaves l a s leaf x y r q c p p' = let t = s.once l l a a x y r q c leaf leaf p p' in (t.1, t.2)
 
+-- a filing at a claimed place keeps what holds of the lists
+pub file_shape : (w : Words) (b : Book) → Shape w b → (l r c k x : ℕ) (a : Leaf) → IsAt b.leaves l a → Stands a.stage → IsAt a.claimed r c → k < 256 → w.slot c k ≡ blank → 256 * r + k < (w.claim l).value
+    → ((p f m : ℕ) → a.stage ≡ Swept p f m → 256 * r + k < f) → Shape (put_slot w c k (holding x)) b
+file_shape w b sh l r c k x a leaf stands here lt was below before = record {
+  lists = subst (AreLists (put_slot w c k (holding x))) (set_again b.leaves l a leaf)
+      (lists_frame_same w (put_slot w c k (holding x)) b.leaves l a a sh.lists leaf (slot_elsewhere w l a c k (holding x) (claimed_chain, r, here)) (λ y q d p. p) (λ d p. p)
+      (claimed_fill (w.claim l) (w.first l) w.next w.slot a r c k x (own_once w b.leaves l a sh.lists leaf) lt was here below before stands (sh.lists.lists l a leaf)) refl);
+  order = sh.order;
+}
+
 module _ (w : Words) (o : Owner) (guests : List Guest) (s : Sound w o guests) (j l r c k : ℕ) (v : Guest) (at : IsAt guests j v) (claim : v.claim ≡ Place l (256 * r + k)) (lt : k < 256) (chunk : KnowsChunk v l r c) where
   abbrev leaves : List Leaf
   leaves = o.book.leaves
@@ -138,13 +147,13 @@ module _ (w : Words) (o : Owner) (guests : List Guest) (s : Sound w o guests) (j
   in_chunk = ((claimed_chain, r, here), lt)
 
   -- the slot was marked while it was empty
-  pub files_late : w.slot c k ≢ blank → Sound w o (set guests j (knowing v Nothing (Empty l c k ∷ v.facts)))
+  pub files_late : w.slot c k ≢ blank → Sound w o (set guests j (guest_with v Nothing (Empty l c k ∷ v.facts)))
   files_late ne = record {
     shape = s.shape;
     known = guest_learns w leaves o.facts guests j v Nothing (Empty l c k ∷ v.facts) s.known at out (λ h g e. absurd (cc))
         (more_facts {F = λ f. OfLeaf leaves (list_of f) (IsStated w v.birth f)} (Empty l c k) v.facts
         (a, leaf, record { reached = place.2.reached; within = in_chunk; holds = marked_empty (w.slot c k) (place.2.vacant r c k here lt refl) ne }) mine.facts);
-    counted = guest_counted _ _ o.out guests j v (knowing v Nothing (Empty l c k ∷ v.facts)) s.counted at refl refl;
+    counted = guest_counted _ _ o.out guests j v (guest_with v Nothing (Empty l c k ∷ v.facts)) s.counted at refl refl;
   }
 
   module _ (x : ℕ) (was : w.slot c k ≡ blank) where
@@ -152,7 +161,7 @@ module _ (w : Words) (o : Owner) (guests : List Guest) (s : Sound w o guests) (j
     w' = put_slot w c k (holding x)
 
     abbrev free : Guest
-    free = knowing v Nothing v.facts
+    free = guest_with v Nothing v.facts
 
     abbrev before : List Guest
     before = set guests j free
@@ -166,11 +175,8 @@ module _ (w : Words) (o : Owner) (guests : List Guest) (s : Sound w o guests) (j
     released : AreKnown w leaves o.facts before
     released = guest_learns w leaves o.facts guests j v Nothing v.facts s.known at out (λ h g e. absurd (cc)) mine.facts
 
-    filled_lists : AreLists w' leaves
-    filled_lists = subst (AreLists w') (set_again leaves l a leaf)
-        (lists_frame_same w w' leaves l a a s.shape.lists leaf (slot_elsewhere w l a c k (holding x) has) (λ y q d p. p) (λ d p. p)
-        (claimed_fill (w.claim l) (w.first l) w.next w.slot a r c k x (own_once w leaves l a s.shape.lists leaf) lt was here place.2.below place.2.before
-        (stands_if o.book.cleared v.birth a.stage (s.shape.order.begun l a leaf) (s.counted.born j v at out).0 place.2.reached) (s.shape.lists.lists l a leaf)) refl)
+    filled_shape : Shape w' o.book
+    filled_shape = file_shape w o.book s.shape l r c k x a leaf (stands_if o.book.cleared v.birth a.stage (s.shape.order.begun l a leaf) (s.counted.born j v at out).0 place.2.reached) here lt was place.2.below place.2.before
 
     -- nobody else has claimed the place
     nobody_else : (i : ℕ) (u : Guest) → IsAt before i u → u.claim ≡ Place l (256 * r + k) → ⊥
@@ -199,14 +205,14 @@ module _ (w : Words) (o : Owner) (guests : List Guest) (s : Sound w o guests) (j
     true_now : Holds w' (Item l c k x)
     true_now = putting_slot w.slot c k (holding x) c k (λ (n : Word). n.value ≡ x + 1) (λ _ _. refl) (λ never. absurd (never refl refl))
 
-    pub files : Sound w' o (set guests j (knowing v Nothing (Item l c k x ∷ v.facts)))
+    pub files : Sound w' o (set guests j (guest_with v Nothing (Item l c k x ∷ v.facts)))
     files = record {
-      shape = record { lists = filled_lists; order = s.shape.order };
-      known = subst (AreKnown w' leaves o.facts) (set-set guests j free (knowing v Nothing (Item l c k x ∷ v.facts)))
+      shape = filled_shape;
+      known = subst (AreKnown w' leaves o.facts) (set-set guests j free (guest_with v Nothing (Item l c k x ∷ v.facts)))
           (guest_learns w' leaves o.facts before j free Nothing (Item l c k x ∷ v.facts) filled_known free_at out (λ h g e. e)
           (more_facts {F = λ f. OfLeaf leaves (list_of f) (IsStated w' v.birth f)} (Item l c k x) v.facts
           (a, leaf, record { reached = place.2.reached; within = in_chunk; holds = true_now }) (filled_known.seats j free free_at).facts));
-      counted = guest_counted _ _ o.out guests j v (knowing v Nothing (Item l c k x ∷ v.facts)) s.counted at refl refl;
+      counted = guest_counted _ _ o.out guests j v (guest_with v Nothing (Item l c k x ∷ v.facts)) s.counted at refl refl;
     }
 
 -- the owner files into the next slot of its chain
@@ -251,11 +257,16 @@ module _ (w : Words) (o : Owner) (guests : List Guest) (s : Sound w o guests) (l
       (λ i f p is t. (filled_holds w c k x owned_blank f t.0, ⊎_elim (λ z. inl (z.0, within_more a a' more f z.1)) inr t.1))
       (s.known.granted l a leaf)
 
-  pub places : Sound after (learning (with_leaf o l a') (Item l c k x)) guests
+  pub places : Sound after (with_fact (with_leaf o l a') (Item l c k x)) guests
   places = record {
     shape = record { lists = placed; order = order_frame o.book.leaves o.book.order o.book.cleared l a a' leaf s.shape.order refl (s.shape.order.begun l a leaf) (λ p n st. let e : Open ≡ Cleared p n = sym unshut ∙ st in absurd (cc)) };
-    known = owner_learns after (set o.book.leaves l a') o.facts guests (Item l c k x) placed_known
-        (a', at_set_same o.book.leaves l a a' leaf, (putting_slot w.slot c k (holding x) c k (λ (n : Word). n.value ≡ x + 1) (λ _ _. refl) (λ never. absurd (never refl refl)),
-        inl (subst Stands (sym unshut) tt, ((owned_chain, r, here), lt))));
+    known = owner_learns after (set o.book.leaves l a') o.facts guests (Item l c k x) placed_known (
+      a',
+      at_set_same o.book.leaves l a a' leaf,
+      (
+        putting_slot w.slot c k (holding x) c k (λ (n : Word). n.value ≡ x + 1) (λ _ _. refl) (λ never. absurd (never refl refl)),
+        inl (subst Stands (sym unshut) tt, ((owned_chain, r, here), lt)),
+      ),
+    );
     counted = s.counted;
   }

@@ -1,12 +1,12 @@
 -- One list and its words change, and the others are as they were.
-use Rattle.std.proofs.Common.{◌≡◌, ℕ, suc, ◌+◌, ◌<◌, ◌≤◌, ◌≢◌, ◌⊎◌, inl, inr, ⊎_elim, ◌∷◌, List, [], ◌++◌, length, set, sym, refl, ap, ◌∙◌, subst, arith, true, false, ◌^◌}
-use Rattle.std.specs.Prelude.{None, Some}
+use Rattle.std.proofs.Common.{◌≡◌, ℕ, suc, ◌+◌, ◌<◌, ◌≤◌, ◌≢◌, ◌⊎◌, inl, inr, ⊎_elim, List, [], ◌++◌, length, set, sym, refl, ap, ◌∙◌, subst, arith, true, false}
+use Rattle.std.specs.Prelude.{Some}
 use mathlib.Core.Logic.{dite}
 use native.Mathlib.Decide.{ℕ_discrete}
 use Rattle.list_machine.specs.Words.{Word, blank}
 use Rattle.list_machine.specs.State.{Words, link_in}
 use Rattle.list_machine.specs.Facts.{IsAt, total, HasChunk, chain_of, Chain, claimed_chain, owned_chain, LeadsTo, list_of, Holds, Within, place_of, Stands, Reached, left_in}
-use Rattle.list_machine.specs.Rule.{IsStanding, IsSwept, IsWiped, HoldsAt, IsList, IsFree, AreLists, IsBegun, AreOrdered, OfLeaf, IsStated, IsClaimed, IsSeat, IsOwned, AreKnown}
+use Rattle.list_machine.specs.Rule.{IsStanding, HoldsAt, IsList, IsFree, AreLists, IsBegun, AreOrdered, OfLeaf, IsStated, IsClaimed, IsSeat, IsOwned, AreKnown}
 use Rattle.list_machine.specs.declared.views.LinkWord.{LinkWord}
 use Rattle.list_machine.specs.declared.views.LinkWord.TheVariants.{OfList, OfChunk}
 use Rattle.list_machine.specs.declared.views.Fact.{Fact}
@@ -14,7 +14,7 @@ use Rattle.list_machine.specs.declared.views.Fact.TheVariants.{Item, Link, Close
 use Rattle.list_machine.specs.declared.views.Stage.{Stage}
 use Rattle.list_machine.specs.declared.views.Stage.TheVariants.{Open, Swept, Cleared}
 use Rattle.list_machine.specs.declared.views.Leaf.{Leaf}
-use Rattle.list_machine.specs.declared.views.Claim.TheVariants.{Nothing, Place}
+use Rattle.list_machine.specs.declared.views.Unfiled.TheVariants.{Nothing, Place}
 use Rattle.list_machine.specs.declared.views.Guest.{Guest}
 use Rattle.list_machine.proofs.Lists.{found_in, at_same, at_set, each_set, at_set_same, at_set_other, at_nothing, at_both, total_same}
 

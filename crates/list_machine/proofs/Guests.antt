@@ -1,14 +1,14 @@
 -- A guest changes, or the owner learns or forgets, and the words stay.
-use Rattle.std.proofs.Common.{◌≡◌, ℕ, zero, suc, ◌+◌, ◌<◌, ◌≤◌, ◌≢◌, ◌⊎◌, inl, true, false, List, ◌∷◌, set, sym, refl, ap, ◌∙◌, subst, arith}
+use Rattle.std.proofs.Common.{◌≡◌, ℕ, zero, suc, ◌≤◌, ◌≢◌, true, false, List, ◌∷◌, set, sym, ap, ◌∙◌, subst, arith}
 use Rattle.std.proofs.lemmas.Option.{same_Some}
 use Rattle.list_machine.specs.State.{Words}
-use Rattle.list_machine.specs.Facts.{IsAt, total, list_of, Holds, Within, Stands, left_in}
+use Rattle.list_machine.specs.Facts.{IsAt, list_of, left_in}
 use Rattle.list_machine.specs.Rule.{OfLeaf, IsStated, IsSeat, IsOwned, AreKnown, AreCounted, counts}
 use Rattle.list_machine.specs.declared.views.Fact.{Fact}
 use Rattle.list_machine.specs.declared.views.Leaf.{Leaf}
-use Rattle.list_machine.specs.declared.views.Claim.TheVariants.{Place}
-use Rattle.list_machine.specs.declared.views.Claim.{Claim}
-use Rattle.list_machine.specs.Steps.{knowing}
+use Rattle.list_machine.specs.declared.views.Unfiled.TheVariants.{Place}
+use Rattle.list_machine.specs.declared.views.Unfiled.{Unfiled}
+use Rattle.list_machine.specs.Steps.{guest_with}
 use Rattle.list_machine.specs.declared.views.Guest.{Guest}
 use Rattle.list_machine.proofs.Lists.{at_set, each_set, total_set, total_same}
 
@@ -44,8 +44,8 @@ pub owner_learns : (w : Words) (leaves : List Leaf) (facts : List Fact) (guests 
 owner_learns w leaves facts guests f s new = owner_knows w leaves facts (f ∷ facts) guests s (more_facts {F = λ g. OfLeaf leaves (list_of g) (IsOwned w g)} f facts new s.owner)
 
 -- a guest that is out knows these facts now, and has kept or ended its claim
-pub guest_learns : (w : Words) (leaves : List Leaf) (facts : List Fact) (guests : List Guest) (i : ℕ) (v : Guest) (c : Claim) (fs : List Fact) → AreKnown w leaves facts guests → IsAt guests i v → v.out ≡ true
-    → ((h k : ℕ) → c ≡ Place h k → v.claim ≡ Place h k) → ((k : ℕ) (f : Fact) → IsAt fs k f → OfLeaf leaves (list_of f) (IsStated w v.birth f)) → AreKnown w leaves facts (set guests i (knowing v c fs))
-guest_learns w leaves facts guests i v c fs s at out keep known = let mine = s.seats i v at in guest_known w leaves facts guests i v (knowing v c fs) s at
+pub guest_learns : (w : Words) (leaves : List Leaf) (facts : List Fact) (guests : List Guest) (i : ℕ) (v : Guest) (c : Unfiled) (fs : List Fact) → AreKnown w leaves facts guests → IsAt guests i v → v.out ≡ true
+    → ((h k : ℕ) → c ≡ Place h k → v.claim ≡ Place h k) → ((k : ℕ) (f : Fact) → IsAt fs k f → OfLeaf leaves (list_of f) (IsStated w v.birth f)) → AreKnown w leaves facts (set guests i (guest_with v c fs))
+guest_learns w leaves facts guests i v c fs s at out keep known = let mine = s.seats i v at in guest_known w leaves facts guests i v (guest_with v c fs) s at
     (record { facts = known; grants = mine.grants; claim = λ h k e. mine.claim h k (keep h k e); spent = λ is. let e : true ≡ false = sym out ∙ is in absurd (cc) })
     (λ l. omega arith) (λ j l k u ne p e e'. ne (s.apart j i l k u v p at e' (keep l k e)))

@@ -1,11 +1,11 @@
 -- Every step keeps the rule, and what a seat knows stays true.
-use Rattle.std.proofs.Common.{◌≡◌, ℕ, suc, ◌+◌, ◌≢◌, ◌⊎◌, inl, inr, Bool, true, false, cond, List, [], ◌∷◌, ◌++◌, length, set, sym, refl, ap, ◌∙◌, subst, arith}
+use Rattle.std.proofs.Common.{◌≡◌, ℕ, suc, Bool, true, false, cond, List, [], ◌∷◌, set, sym, refl, ap, ◌∙◌, subst}
 use mathlib.Core.Logic.{dite}
 use native.Mathlib.Decide.{ℕ_discrete}
-use Rattle.list_machine.specs.Facts.{IsAt, Holds, list_of}
+use Rattle.list_machine.specs.Facts.{IsAt, Holds}
 use Rattle.list_machine.specs.Machine.{State, IsSound, Step, claims, files, misses, reads, places, adopts, links, shuts, marks, first_clears, slot_clears, link_clears, clearing_ends, splits, joins, Run, none, more}
-use Rattle.list_machine.specs.Steps.{newcomer, nobody, knowing, after_claim}
-use Rattle.list_machine.specs.declared.views.Claim.TheVariants.{Nothing}
+use Rattle.list_machine.specs.Steps.{newcomer, nobody, guest_with, after_claim}
+use Rattle.list_machine.specs.declared.views.Unfiled.TheVariants.{Nothing}
 use Rattle.list_machine.specs.declared.views.Fact.TheVariants.{Item, Link, Closed, Empty}
 use Rattle.list_machine.specs.declared.views.Fact.{Fact}
 use Rattle.list_machine.specs.declared.views.Guest.{Guest}
@@ -61,9 +61,9 @@ fact_if false g fs k f p = (k, p)
 
 step_kept : (s t : State) → Step s t → Kept s.guests t.guests
 step_kept s t (claims j l v at idle has) = one_kept s.guests j v (after_claim v l (s.words.claim l)) at (λ out. (out, λ k f p. fact_if (s.words.claim l).high (Closed l) v.facts k f p))
-step_kept s t (files j l r c k x v at claim lt chunk was) = one_fact s.guests j v (knowing v Nothing (Item l c k x ∷ v.facts)) (Item l c k x) at refl refl
-step_kept s t (misses j l r c k v at claim lt chunk ne) = one_fact s.guests j v (knowing v Nothing (Empty l c k ∷ v.facts)) (Empty l c k) at refl refl
-step_kept s t (reads j l r c from v at out knows found) = one_fact s.guests j v (knowing v v.claim (Link l from r c ∷ v.facts)) (Link l from r c) at refl refl
+step_kept s t (files j l r c k x v at claim lt chunk was) = one_fact s.guests j v (guest_with v Nothing (Item l c k x ∷ v.facts)) (Item l c k x) at refl refl
+step_kept s t (misses j l r c k v at claim lt chunk ne) = one_fact s.guests j v (guest_with v Nothing (Empty l c k ∷ v.facts)) (Empty l c k) at refl refl
+step_kept s t (reads j l r c from v at out knows found) = one_fact s.guests j v (guest_with v v.claim (Link l from r c ∷ v.facts)) (Link l from r c) at refl refl
 step_kept s t (places l r c k x a leaf unshut here lt is_next) = all_kept s.guests
 step_kept s t (adopts l c a leaf unshut free small) = all_kept s.guests
 step_kept s t (links l c from a leaf unshut free small last) = all_kept s.guests

@@ -1,3 +1,4 @@
+mod Examples
 pub mod Bits
 pub mod Lists
 pub mod Puts
@@ -16,3 +17,7 @@ pub mod Seats
 pub mod Clears
 pub mod Keeping
 pub mod Knowledge
+pub mod WalkedLinks
+pub mod Openings
+pub mod Shapes
+pub mod Rows

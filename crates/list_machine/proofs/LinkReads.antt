@@ -1,21 +1,19 @@
 -- A read of a link keeps the rule.
-use Rattle.std.proofs.Common.{◌≡◌, ℕ, suc, ◌+◌, ◌*◌, ◌<◌, ◌≤◌, ◌⊎◌, ⊎_elim, true, List, ◌∷◌, length, set, sym, refl, ap, ◌∙◌, subst, arith}
+use Rattle.std.proofs.Common.{◌≡◌, ℕ, ◌≤◌, ⊎_elim, true, List, ◌∷◌, length, set, sym, refl, ◌∙◌, subst, arith}
 use mathlib.Core.Logic.{dite}
 use native.Mathlib.Decide.{ℕ_discrete}
 use Rattle.list_machine.specs.Words.{link_to}
-use Rattle.list_machine.specs.State.{Words, link_at, link_in}
-use Rattle.list_machine.specs.Facts.{IsAt, LeadsTo, list_of, Reached, left_in, claimed_chain}
+use Rattle.list_machine.specs.State.{Words, link_at}
+use Rattle.list_machine.specs.Facts.{IsAt, LeadsTo, list_of, Reached}
 use Rattle.list_machine.specs.Rule.{IsStanding, IsSeat, OfLeaf, IsStated, Sound}
-use Rattle.list_machine.specs.Steps.{knowing, KnowsList, KnowsLink}
+use Rattle.list_machine.specs.Steps.{guest_with, KnowsList, KnowsLink}
 use Rattle.list_machine.specs.declared.views.LinkWord.{LinkWord}
 use Rattle.list_machine.specs.declared.views.LinkWord.TheVariants.{OfList, OfChunk}
-use Rattle.list_machine.specs.declared.views.Fact.{Fact}
 use Rattle.list_machine.specs.declared.views.Fact.TheVariants.{Link}
-use Rattle.list_machine.specs.declared.views.Claim.TheVariants.{Place}
 use Rattle.list_machine.specs.declared.views.Leaf.{Leaf}
 use Rattle.list_machine.specs.declared.views.Owner.{Owner}
 use Rattle.list_machine.specs.declared.views.Guest.{Guest}
-use Rattle.list_machine.proofs.Lists.{at_same, at_below, some_at}
+use Rattle.list_machine.proofs.Lists.{at_below, some_at}
 use Rattle.list_machine.proofs.Stages.{as_standing}
 use Rattle.list_machine.proofs.Frames.{stands_if}
 use Rattle.list_machine.proofs.Guests.{guest_learns, guest_counted, more_facts}
@@ -44,19 +42,25 @@ module _ (w : Words) (o : Owner) (guests : List Guest) (s : Sound w o guests) (j
 
   module _ (from : LinkWord) (r c : ℕ) (knows : KnowsLink v l from r) (found : link_at w l from ≡ link_to r c) where
     stated : OfLeaf leaves l (IsStated w v.birth (Link l from r c))
-    stated = let z = leads from r knows in let y = standing_of z.0 z.1 z.2.0 in
-        (z.0, z.1, record {
-          reached = z.2.0;
-          holds = found;
-          within = (z.2.1, dite (ℕ_discrete r (length z.0.claimed))
+    stated = let z = leads from r knows in let y = standing_of z.0 z.1 z.2.0 in (
+      z.0,
+      z.1,
+      record {
+        reached = z.2.0;
+        holds = found;
+        within = (
+          z.2.1,
+          dite (ℕ_discrete r (length z.0.claimed))
               (λ e. let n : link_at w l from ≡ 0 = y.ended from (subst (LeadsTo z.0.claimed from) e z.2.1) in absurd (omega arith))
-              (λ ne. let few = z.2.2 in let d = some_at z.0.claimed r (omega arith) in subst (IsAt z.0.claimed r) (sym (one_chunk r c d.0 (sym found ∙ y.linked from r d.0 z.2.1 d.1))) d.1));
-        })
+              (λ ne. let few = z.2.2 in let d = some_at z.0.claimed r (omega arith) in subst (IsAt z.0.claimed r) (sym (one_chunk r c d.0 (sym found ∙ y.linked from r d.0 z.2.1 d.1))) d.1),
+        );
+      },
+    )
 
-    pub reads : Sound w o (set guests j (knowing v v.claim (Link l from r c ∷ v.facts)))
+    pub reads : Sound w o (set guests j (guest_with v v.claim (Link l from r c ∷ v.facts)))
     reads = record {
       shape = s.shape;
       known = guest_learns w leaves o.facts guests j v v.claim (Link l from r c ∷ v.facts) s.known at out (λ h g e. e)
           (more_facts {F = λ f. OfLeaf leaves (list_of f) (IsStated w v.birth f)} (Link l from r c) v.facts stated mine.facts);
-      counted = guest_counted _ _ o.out guests j v (knowing v v.claim (Link l from r c ∷ v.facts)) s.counted at refl refl;
+      counted = guest_counted _ _ o.out guests j v (guest_with v v.claim (Link l from r c ∷ v.facts)) s.counted at refl refl;
     }

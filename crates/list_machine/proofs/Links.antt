@@ -1,17 +1,15 @@
 -- A free chunk that joins a chain keeps the rule.
-use Rattle.std.proofs.Common.{◌≡◌, ℕ, zero, suc, ◌+◌, ◌*◌, ◌<◌, ◌≤◌, ◌≢◌, ◌⊎◌, inl, inr, ⊎_elim, Bool, true, false, List, [], ◌∷◌, ◌++◌, length, length-append, set, sym, refl, ap, ◌∙◌, subst, arith}
-use mathlib.Core.Logic.{dite}
-use native.Mathlib.Decide.{ℕ_discrete}
+use Rattle.std.proofs.Common.{◌≡◌, ℕ, suc, ◌+◌, ◌*◌, ◌<◌, ◌≤◌, ◌⊎◌, inl, inr, ⊎_elim, false, List, [], ◌∷◌, ◌++◌, length, length-append, set, sym, refl, ap, ◌∙◌, subst, arith}
 use Rattle.list_machine.specs.Words.{Word, blank, link_to}
-use Rattle.list_machine.specs.State.{Words, put, put_link, link_at, link_in}
-use Rattle.list_machine.specs.Facts.{IsAt, Chain, claimed_chain, owned_chain, chain_of, HasChunk, LeadsTo, list_of, Holds, Within, Stands, Reached}
-use Rattle.list_machine.specs.Rule.{IsStanding, IsUnmarked, HoldsAt, IsList, IsFree, AreLists, AreKnown, IsOwned, Sound}
-use Rattle.list_machine.specs.Steps.{with_leaf, with_claimed, with_owned, learning}
+use Rattle.list_machine.specs.State.{Words, put_link, link_at}
+use Rattle.list_machine.specs.Facts.{IsAt, Chain, claimed_chain, owned_chain, chain_of, LeadsTo, list_of, Holds, Stands}
+use Rattle.list_machine.specs.Rule.{IsStanding, IsUnmarked, HoldsAt, IsList, IsFree, AreKnown, Sound}
+use Rattle.list_machine.specs.Steps.{with_leaf, with_claimed, with_owned, with_fact}
 use Rattle.list_machine.specs.declared.views.LinkWord.{LinkWord}
 use Rattle.list_machine.specs.declared.views.LinkWord.TheVariants.{OfList, OfChunk}
 use Rattle.list_machine.specs.declared.views.Fact.{Fact}
 use Rattle.list_machine.specs.declared.views.Fact.TheVariants.{Item, Link, Closed, Empty}
-use Rattle.list_machine.specs.declared.views.Stage.TheVariants.{Open, Swept, Cleared}
+use Rattle.list_machine.specs.declared.views.Stage.TheVariants.{Open, Cleared}
 use Rattle.list_machine.specs.declared.views.Leaf.{Leaf}
 use Rattle.list_machine.specs.declared.views.Owner.{Owner}
 use Rattle.list_machine.specs.declared.views.Guest.{Guest}
@@ -20,7 +18,7 @@ use Rattle.list_machine.proofs.Lists.{at_same, at_set_same, at_below, at_left, a
 use Rattle.list_machine.proofs.Stages.{as_open, within_more}
 use Rattle.list_machine.proofs.Frames.{lists_frame, known_frame, order_frame}
 use Rattle.list_machine.proofs.Changes.{same_elsewhere, link_elsewhere}
-use Rattle.list_machine.proofs.Fills.{OwnOnce, own_once}
+use Rattle.list_machine.proofs.Fills.{own_once}
 use Rattle.list_machine.proofs.Guests.{owner_learns}
 
 -- a link word is the changed one, or as it was
@@ -143,8 +141,8 @@ module _ (w : Words) (o : Owner) (guests : List Guest) (s : Sound w o guests) (l
     new_ends : (at : LinkWord) → at ≡ OfChunk c → link_at w' l at ≡ 0
     new_ends at is = putting_link w l from (link_to rank c) at (λ n. n ≡ 0) (λ e. absurd (not_new (sym is ∙ e)))
         (λ _. subst (λ (y : LinkWord). link_at w l y ≡ 0) (sym is) next_zero) where
-      not_new : OfChunk c ≡ from → ⊥
-      not_new e = let t : LeadsTo a.claimed (OfChunk c) rank = subst (λ (y : LinkWord). LeadsTo a.claimed y rank) (sym e) last in free l a leaf (claimed_chain, t.0, t.2)
+          not_new : OfChunk c ≡ from → ⊥
+          not_new e = let t : LeadsTo a.claimed (OfChunk c) rank = subst (λ (y : LinkWord). LeadsTo a.claimed y rank) (sym e) last in free l a leaf (claimed_chain, t.0, t.2)
 
     linked_on : (at : LinkWord) (r d : ℕ) → LeadsTo a'.claimed at r → IsAt a'.claimed r d → link_at w' l at ≡ link_to r d
     linked_on at r d to p = at_more a.claimed c r d (link_at w' l at ≡ link_to r d) p
@@ -201,7 +199,7 @@ module _ (w : Words) (o : Owner) (guests : List Guest) (s : Sound w o guests) (l
         (λ k f p is t. (holds_on f is t.0, ⊎_elim (λ z. inl (z.0, within_more a a' more f z.1)) inr t.1))
         (s.known.granted l a leaf)
 
-    pub links : Sound w' (learning (with_leaf o l a') (Link l from rank c)) guests
+    pub links : Sound w' (with_fact (with_leaf o l a') (Link l from rank c)) guests
     links = record {
       shape = record {
         lists = lists_frame w w' leaves l a a' s.shape.lists leaf (link_elsewhere w l a from rank (link_to rank c) last) claimed_chain rank c
@@ -209,9 +207,14 @@ module _ (w : Words) (o : Owner) (guests : List Guest) (s : Sound w o guests) (l
             linked_list refl (λ d has never. absurd (never (has.0, has.1, more has.0 has.1 d has.2)));
         order = order_frame leaves o.book.order o.book.cleared l a a' leaf s.shape.order refl (s.shape.order.begun l a leaf) (λ p n st. let e : Open ≡ Cleared p n = sym unshut ∙ st in absurd (cc));
       };
-      known = owner_learns w' (set leaves l a') o.facts guests (Link l from rank c) known'
-          (a', at_set_same leaves l a a' leaf, (putting_link w l from (link_to rank c) from (λ n. n ≡ link_to rank c) (λ _. refl) (λ ne. absurd (ne refl)),
-          inl (subst Stands (sym unshut) tt, (leads_on from rank last, at_last a.claimed c))));
+      known = owner_learns w' (set leaves l a') o.facts guests (Link l from rank c) known' (
+        a',
+        at_set_same leaves l a a' leaf,
+        (
+          putting_link w l from (link_to rank c) from (λ n. n ≡ link_to rank c) (λ _. refl) (λ ne. absurd (ne refl)),
+          inl (subst Stands (sym unshut) tt, (leads_on from rank last, at_last a.claimed c)),
+        ),
+      );
       counted = s.counted;
     } where
       leads_on : (at : LinkWord) (r : ℕ) → LeadsTo a.claimed at r → LeadsTo a'.claimed at r

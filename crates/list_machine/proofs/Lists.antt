@@ -1,6 +1,6 @@
 -- Lists read by place, with one item changed or one more, and sums over them.
-use Rattle.std.proofs.Common.{◌≡◌, ℕ, zero, suc, ◌+◌, ◌<◌, ◌≢◌, ◌⊎◌, inl, inr, Bool, true, false, cond, List, [], ◌∷◌, ◌++◌, length, get_or, set, sym, refl, ap, ◌∙◌, subst, arith}
-use Rattle.std.specs.Prelude.{Some, None, filter}
+use Rattle.std.proofs.Common.{◌≡◌, ℕ, zero, suc, ◌+◌, ◌<◌, ◌≤◌, ◌≢◌, ◌⊎◌, inl, inr, Bool, true, false, cond, List, [], ◌∷◌, ◌++◌, length, set, sym, refl, ap, ◌∙◌, subst, arith}
+use Rattle.std.specs.Prelude.{Some, filter}
 use Rattle.std.proofs.lemmas.Option.{none-some, same_Some}
 use mathlib.Core.Logic.{dite}
 use native.Mathlib.Decide.{ℕ_discrete}
@@ -87,6 +87,11 @@ module _ {A : Type 0} where
   pub total_more : (f : A → ℕ) (l : List A) (x : A) → total f (l ++ x ∷ []) ≡ total f l + f x
   total_more f [] x = omega arith
   total_more f (y ∷ ys) x = let h = total_more f ys x in omega arith
+
+pub total_at : {A : Type 0} (f : A → ℕ) (l : List A) (i : ℕ) (a : A) → IsAt l i a → f a ≤ total f l
+total_at f [] i a p = absurd (none-some a p)
+total_at f (x ∷ xs) zero a p = let is : f x ≡ f a = ap f (same_Some x a p) in omega arith
+total_at f (x ∷ xs) (suc i) a p = let h = total_at f xs i a p in omega arith
 
 -- an item that a filter keeps
 pub at_filter : {A : Type 0} (test : A → Bool) (xs : List A) (k : ℕ) (x : A) → IsAt (filter test xs) k x → (q : ℕ) × IsAt xs q x × (test x ≡ true)

@@ -1,18 +1,18 @@
 -- A mark keeps the rule.
-use Rattle.std.proofs.Common.{◌≡◌, ℕ, suc, ◌+◌, ◌-◌, ◌*◌, ◌<◌, ◌≤◌, ◌≢◌, ◌⊎◌, inl, inr, ⊎_elim, Bool, true, false, cond, List, ◌∷◌, set, sym, refl, ap, ◌∙◌, subst, arith}
+use Rattle.std.proofs.Common.{◌≡◌, ℕ, suc, ◌+◌, ◌-◌, ◌*◌, ◌<◌, ◌≤◌, inl, inr, ⊎_elim, Bool, true, false, cond, List, set, sym, refl, ap, ◌∙◌, subst, arith}
 use Rattle.std.specs.Prelude.{nat_lt}
 use Rattle.std.proofs.lemmas.Bool.Decides.{nat_tests}
 use mathlib.Core.Logic.{dite}
 use native.Mathlib.Decide.{ℕ_discrete}
-use Rattle.list_machine.specs.Words.{Word, word, blank, raised}
+use Rattle.list_machine.specs.Words.{Word, blank, raised}
 use Rattle.list_machine.specs.State.{Words, put, put_slot}
-use Rattle.list_machine.specs.Facts.{IsAt, Chain, claimed_chain, owned_chain, chain_of, HasChunk, list_of, Holds, Within, is_shut, place_of, Stands, Reached}
-use Rattle.list_machine.specs.Rule.{IsStanding, IsSwept, IsList, IsBegun, AreLists, AreKnown, IsOwned, OfLeaf, Sound}
-use Rattle.list_machine.specs.Steps.{with_leaf, with_stage, learning, IsNextMark, mark_shows}
+use Rattle.list_machine.specs.Facts.{IsAt, Chain, claimed_chain, owned_chain, chain_of, HasChunk, list_of, Holds, Within, is_shut, place_of, Reached}
+use Rattle.list_machine.specs.Rule.{IsSwept, IsList, IsBegun, AreLists, AreKnown, IsOwned, OfLeaf, Sound}
+use Rattle.list_machine.specs.Steps.{with_leaf, with_stage, with_fact, IsNextMark, mark_shows}
 use Rattle.list_machine.specs.declared.views.Fact.{Fact}
 use Rattle.list_machine.specs.declared.views.Fact.TheVariants.{Item, Link, Closed, Empty}
 use Rattle.list_machine.specs.declared.views.Stage.{Stage}
-use Rattle.list_machine.specs.declared.views.Stage.TheVariants.{Open, Swept, Cleared}
+use Rattle.list_machine.specs.declared.views.Stage.TheVariants.{Swept}
 use Rattle.list_machine.specs.declared.views.Leaf.{Leaf}
 use Rattle.list_machine.specs.declared.views.Owner.{Owner}
 use Rattle.list_machine.specs.declared.views.Guest.{Guest}
@@ -154,7 +154,7 @@ module _ (w : Words) (o : Owner) (guests : List Guest) (s : Sound w o guests) (l
     ),
   )
 
-  pub marks : Sound w' (learning (with_leaf o l (with_stage a t')) (mark_shows l c k (w.slot c k))) guests
+  pub marks : Sound w' (with_fact (with_leaf o l (with_stage a t')) (mark_shows l c k (w.slot c k))) guests
   marks = record {
     shape = record { lists = lists'; order = order_frame o.book.leaves o.book.order o.book.cleared l a (with_stage a t') leaf s.shape.order (ap place_of (sym shut)) (subst (IsBegun o.book.cleared) shut (s.shape.order.begun l a leaf)) (λ q n st. absurd (cc)) };
     known = owner_learns w' leaves' o.facts guests (mark_shows l c k (w.slot c k)) known' (shows (nat_lt 0 (w.slot c k).value) refl);

@@ -1,5 +1,5 @@
 -- Words with one change.
-use Rattle.std.proofs.Common.{◌≡◌, ℕ, ◌≢◌, Bool, cond, sym, refl, ap, subst, eq-eqb, ne_eqb}
+use Rattle.std.proofs.Common.{◌≡◌, ℕ, ◌≢◌, cond, sym, refl, subst, eq-eqb, ne_eqb}
 use mathlib.Core.Logic.{dite}
 use native.Mathlib.Decide.{ℕ_discrete}
 use Rattle.list_machine.specs.State.{put}

@@ -1,25 +1,23 @@
 -- Making a seat, and taking it back, keep the rule.
-use Rattle.std.proofs.Common.{◌≡◌, ℕ, zero, suc, ◌+◌, ◌-◌, ◌*◌, ◌<◌, ◌≤◌, ◌≢◌, ◌⊎◌, inl, inr, ⊎_elim, Bool, true, false, cond, List, [], ◌∷◌, ◌++◌, length, get_or, set, sym, refl, ap, ◌∙◌, subst, arith, get_or-set_same, get_or-set_other, length-set, eq-eqb, ne_eqb}
-use Rattle.std.specs.Prelude.{None, Some, nat_eq, ◌&&◌, not}
+use Rattle.std.proofs.Common.{◌≡◌, ℕ, zero, suc, ◌+◌, ◌-◌, ◌*◌, ◌<◌, ◌≤◌, ◌≢◌, inl, inr, ⊎_elim, Bool, true, cond, List, [], ◌∷◌, ◌++◌, length, get_or, set, sym, refl, ap, ◌∙◌, subst, arith, get_or-set_same, get_or-set_other, length-set, eq-eqb, ne_eqb}
+use Rattle.std.specs.Prelude.{Some, nat_eq, ◌&&◌, not}
 use Rattle.std.proofs.lemmas.Option.{none-some, same_Some}
 use mathlib.Core.Logic.{dite}
 use native.Mathlib.Decide.{ℕ_discrete}
-use Rattle.list_machine.specs.Words.{Word}
 use Rattle.list_machine.specs.State.{Words}
-use Rattle.list_machine.specs.Facts.{IsAt, total, Chain, claimed_chain, owned_chain, chain_of, HasChunk, list_of, Holds, Within, is_shut, place_of, Stands, Reached, left_in}
-use Rattle.list_machine.specs.Rule.{IsStanding, HoldsAt, IsList, IsFree, AreLists, IsBegun, AreOrdered, OfLeaf, IsStated, IsClaimed, IsSeat, IsOwned, AreKnown, AreCounted, counts, Sound}
-use Rattle.list_machine.specs.Steps.{with_grant, leaves_after_grants, is_open_at, open_facts, after_split, newcomer, IsGrantable, nobody, after_join}
+use Rattle.list_machine.specs.Facts.{IsAt, total, Chain, claimed_chain, owned_chain, chain_of, list_of, Within, is_shut, place_of, Reached, left_in}
+use Rattle.list_machine.specs.Rule.{HoldsAt, IsList, AreLists, IsBegun, AreOrdered, OfLeaf, IsStated, IsClaimed, IsSeat, IsOwned, AreKnown, AreCounted, counts, Sound}
+use Rattle.list_machine.specs.Steps.{with_grant, leaves_after_grants, is_open_at, after_split, newcomer, IsGrantable, nobody, after_join}
 use Rattle.list_machine.specs.declared.views.Grant.{Grant}
 use Rattle.list_machine.specs.declared.views.Fact.{Fact}
-use Rattle.list_machine.specs.declared.views.Fact.TheVariants.{Closed}
 use Rattle.list_machine.specs.declared.views.Stage.{Stage}
 use Rattle.list_machine.specs.declared.views.Stage.TheVariants.{Open, Swept, Cleared}
-use Rattle.list_machine.specs.declared.views.Claim.TheVariants.{Nothing, Place}
+use Rattle.list_machine.specs.declared.views.Unfiled.TheVariants.{Nothing, Place}
 use Rattle.list_machine.specs.declared.views.Leaf.{Leaf}
 use Rattle.list_machine.specs.declared.views.Owner.{Owner}
 use Rattle.list_machine.specs.declared.views.Guest.{Guest}
-use Rattle.list_machine.proofs.Lists.{at_same, at_set, each_set, at_more, at_both, at_nothing, at_filter, total_set, total_more}
-use Rattle.list_machine.proofs.Stages.{is_open, as_open, within_more}
+use Rattle.list_machine.proofs.Lists.{at_same, each_set, at_more, at_both, at_nothing, at_filter, total_set, total_more}
+use Rattle.list_machine.proofs.Stages.{as_open, within_more}
 use Rattle.list_machine.proofs.Frames.{stands_if}
 use Rattle.list_machine.proofs.Guests.{guest_known, owner_knows}
 

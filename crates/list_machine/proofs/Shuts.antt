@@ -1,17 +1,16 @@
 -- Shutting a list keeps the rule.
-use Rattle.std.proofs.Common.{◌≡◌, ℕ, zero, suc, ◌+◌, ◌*◌, ◌<◌, ◌≤◌, ◌≢◌, ◌⊎◌, inl, inr, ⊎_elim, Bool, true, false, List, [], ◌∷◌, ◌++◌, length, length-append, get_or, set, sym, refl, ap, ◌∙◌, subst, arith}
+use Rattle.std.proofs.Common.{◌≡◌, ℕ, zero, suc, ◌+◌, ◌<◌, ◌≤◌, inl, inr, ⊎_elim, true, List, [], ◌∷◌, ◌++◌, length, length-append, get_or, set, sym, refl, ap, ◌∙◌, subst, arith}
 use Rattle.std.specs.Prelude.{None, Some}
 use Rattle.std.proofs.lemmas.Option.{none-some, same_Some}
 use mathlib.Core.Logic.{dite}
 use native.Mathlib.Decide.{ℕ_discrete}
 use Rattle.list_machine.specs.Words.{Word, raised}
 use Rattle.list_machine.specs.State.{Words, put_claim}
-use Rattle.list_machine.specs.Facts.{IsAt, total, chain_of, Chain, HasChunk, list_of, Holds, Within, place_of, Stands, Reached, left_in}
-use Rattle.list_machine.specs.Rule.{IsStanding, IsList, IsBegun, AreLists, AreOrdered, AreKnown, AreCounted, IsOwned, Sound}
+use Rattle.list_machine.specs.Facts.{IsAt, total, Holds, Within, place_of, left_in}
+use Rattle.list_machine.specs.Rule.{IsList, IsBegun, AreLists, AreOrdered, AreKnown, AreCounted, Sound}
 use Rattle.list_machine.specs.Steps.{with_stage, after_shut}
 use Rattle.list_machine.specs.declared.views.Fact.{Fact}
 use Rattle.list_machine.specs.declared.views.Fact.TheVariants.{Closed}
-use Rattle.list_machine.specs.declared.views.Stage.{Stage}
 use Rattle.list_machine.specs.declared.views.Stage.TheVariants.{Open, Swept, Cleared}
 use Rattle.list_machine.specs.declared.views.Leaf.{Leaf}
 use Rattle.list_machine.specs.declared.views.Owner.{Owner}

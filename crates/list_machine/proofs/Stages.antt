@@ -1,7 +1,7 @@
 -- What holds of a list by its stage.
-use Rattle.std.proofs.Common.{◌≡◌, ℕ, ◌<◌, ◌≢◌, Bool, true, false, refl, ap, sym, ◌∙◌, subst}
+use Rattle.std.proofs.Common.{◌≡◌, ℕ, ◌≢◌, Bool, true, false, refl, subst}
 use Rattle.list_machine.specs.Words.{Word, word, blank}
-use Rattle.list_machine.specs.Facts.{IsAt, is_shut, Stands, Reached, Chain, claimed_chain, owned_chain, chain_of, Within}
+use Rattle.list_machine.specs.Facts.{IsAt, is_shut, Stands, Chain, claimed_chain, owned_chain, chain_of, Within}
 use Rattle.list_machine.specs.Rule.{IsStanding, IsUnmarked, IsSwept, HoldsAt, IsList}
 use Rattle.list_machine.specs.Steps.{with_stage}
 use Rattle.list_machine.specs.declared.views.Fact.{Fact}

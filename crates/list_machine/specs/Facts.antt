@@ -1,6 +1,6 @@
 -- Facts about words, and which lists a seat reaches.
 use Rattle.std.specs.Prelude.{◌≡◌, ℕ, suc, ◌+◌, ◌<◌, ◌≤◌, Bool, true, false, List, [], ◌∷◌, slice_get, Option, None, Some, if◌then◌else◌, ◌==◌}
-use Rattle.list_machine.specs.Words.{Word, word, link_to}
+use Rattle.list_machine.specs.Words.{word, link_to}
 use Rattle.list_machine.specs.State.{Words, link_at}
 use Rattle.list_machine.specs.declared.views.Grant.{Grant}
 use Rattle.list_machine.specs.declared.views.LinkWord.{LinkWord}
@@ -25,10 +25,12 @@ pub data Chain : Type 0 where
   claimed_chain : Chain
   owned_chain : Chain
 
+-- its chunks in order
 abbrev pub chain_of : Leaf → Chain → List ℕ
 chain_of a claimed_chain = a.claimed
 chain_of a owned_chain = a.owned
 
+-- the chunk stands in one of the chains
 abbrev pub HasChunk : Leaf → ℕ → Type 0
 HasChunk a c = (x : Chain) × (r : ℕ) × IsAt (chain_of a x) r c
 
@@ -37,6 +39,7 @@ abbrev pub LeadsTo : List ℕ → LinkWord → ℕ → Type 0
 LeadsTo claimed OfList r = r ≡ 0
 LeadsTo claimed (OfChunk b) r = (q : ℕ) × (r ≡ suc q) × IsAt claimed q b
 
+-- the list that a fact is about
 abbrev pub list_of : Fact → ℕ
 list_of (Item l c k x) = l
 list_of (Link l from r c) = l
@@ -57,6 +60,7 @@ Within a (Link l from r c) = LeadsTo a.claimed from r × IsAt a.claimed r c
 Within a (Closed l) = Unit {0}
 Within a (Empty l c k) = HasChunk a c × (k < 256)
 
+-- the list was shut
 abbrev pub is_shut : Stage → Bool
 is_shut Open = false
 is_shut (Swept p f m) = true

@@ -1,5 +1,5 @@
 -- The rule that the words of lists and the views of seats keep.
-use Rattle.std.specs.Prelude.{◌≡◌, ◌≢◌, ℕ, suc, ◌+◌, ◌*◌, ◌<◌, ◌≤◌, ◌^◌, ◌⊎◌, Bool, true, false, if◌then◌else◌, ◌==◌, ◌&&◌, List, [], ◌++◌, length, slice_index, None, Some}
+use Rattle.std.specs.Prelude.{◌≡◌, ◌≢◌, ℕ, suc, ◌+◌, ◌*◌, ◌<◌, ◌≤◌, ◌^◌, ◌⊎◌, true, false, if◌then◌else◌, ◌==◌, ◌&&◌, List, [], ◌++◌, length, slice_index, Some}
 use Rattle.list_machine.specs.Words.{Word, blank, link_to}
 use Rattle.list_machine.specs.State.{Words, link_in}
 use Rattle.list_machine.specs.Facts.{IsAt, total, HasChunk, chain_of, Chain, LeadsTo, list_of, Holds, Within, is_shut, place_of, Stands, Reached, left_in}
@@ -11,7 +11,7 @@ use Rattle.list_machine.specs.declared.views.Stage.TheVariants.{Open, Swept, Cle
 use Rattle.list_machine.specs.declared.views.Leaf.{Leaf}
 use Rattle.list_machine.specs.declared.views.Book.{Book}
 use Rattle.list_machine.specs.declared.views.Owner.{Owner}
-use Rattle.list_machine.specs.declared.views.Claim.TheVariants.{Nothing, Place}
+use Rattle.list_machine.specs.declared.views.Unfiled.TheVariants.{Nothing, Place}
 use Rattle.list_machine.specs.declared.views.Guest.{Guest}
 
 -- A list that is not cleared. Its records read its claim word, its first link, and the links and slots of chunks.
@@ -54,6 +54,7 @@ HoldsAt claim first next slot a Open = IsStanding claim first next slot a × IsU
 HoldsAt claim first next slot a (Swept p f m) = IsStanding claim first next slot a × IsSwept claim slot a f m
 HoldsAt claim first next slot a (Cleared p n) = IsWiped first next slot a n
 
+-- one list
 pub record IsList (claim : Word) (first : ℕ) (next : ℕ → ℕ) (slot : ℕ → ℕ → Word) (a : Leaf) : Type 0 where
   -- no more was claimed than was granted
   pub counted : claim.value ≤ a.granted

@@ -1,6 +1,6 @@
 -- The words of all lists at one moment, and these with one word changed.
 use Rattle.std.specs.Prelude.{ℕ, if◌then◌else◌, ◌==◌}
-use Rattle.list_machine.specs.Words.{Word}
+use Rattle.list_machine.specs.Words.{Word, blank}
 use Rattle.list_machine.specs.declared.views.LinkWord.{LinkWord}
 use Rattle.list_machine.specs.declared.views.LinkWord.TheVariants.{OfList, OfChunk}
 
@@ -13,6 +13,10 @@ pub record Words : Type 0 where
   pub next : ℕ → ℕ
   -- of a chunk and a number below 256: the item + 1, and whether it was moved
   pub slot : ℕ → ℕ → Word
+
+-- all words are 0
+abbrev pub zero_words : Words
+zero_words = record { claim = λ l. blank; first = λ l. 0; next = λ c. 0; slot = λ c k. blank }
 
 -- the function that is x at k, and f elsewhere
 abbrev pub put : {X : Type 0} → (ℕ → X) → ℕ → X → ℕ → X
@@ -27,11 +31,12 @@ link_in first next (OfChunk b) = next b
 abbrev pub link_at : Words → ℕ → LinkWord → ℕ
 link_at w l from = link_in (w.first l) w.next from
 
+-- the words with one claim word, one slot or one link changed
 abbrev pub put_claim : Words → ℕ → Word → Words
-put_claim w l x = record { claim = put w.claim l x; first = w.first; next = w.next; slot = w.slot }
+put_claim w l x = record w { claim = put w.claim l x }
 
 abbrev pub put_slot : Words → ℕ → ℕ → Word → Words
-put_slot w c k x = record { claim = w.claim; first = w.first; next = w.next; slot = put w.slot c (put (w.slot c) k x) }
+put_slot w c k x = record w { slot = put w.slot c (put (w.slot c) k x) }
 
 -- the first links, or the links of chunks, after a change of this link word
 abbrev pub first_with : (ℕ → ℕ) → ℕ → LinkWord → ℕ → ℕ → ℕ
@@ -43,4 +48,4 @@ next_with next OfList n = next
 next_with next (OfChunk b) n = put next b n
 
 abbrev pub put_link : Words → ℕ → LinkWord → ℕ → Words
-put_link w l from n = record { claim = w.claim; first = first_with w.first l from n; next = next_with w.next from n; slot = w.slot }
+put_link w l from n = record w { first = first_with w.first l from n; next = next_with w.next from n }

@@ -1,9 +1,7 @@
 -- The steps of the seats: what each does to the words and to the views.
-use Rattle.std.specs.Prelude.{◌≡◌, ◌≢◌, ℕ, zero, suc, ◌+◌, ◌*◌, ◌-◌, ◌<◌, ◌≤◌, ◌^◌, ◌⊎◌, Bool, true, false, if◌then◌else◌, ◌==◌, ◌&&◌, nat_lt, not, List, [], ◌∷◌, ◌++◌, length, slice_index, slice_set, filter}
-use Rattle.list_machine.specs.Words.{Word, word, blank, one_more, raised, holding, link_to}
-use Rattle.list_machine.specs.State.{Words, link_at, put_claim, put_slot, put_link}
-use Rattle.list_machine.specs.Facts.{IsAt, total, HasChunk, chain_of, Chain, claimed_chain, owned_chain, LeadsTo, list_of, is_shut, left_in}
-use Rattle.list_machine.specs.Rule.{IsFree, Sound}
+use Rattle.std.specs.Prelude.{◌≡◌, ℕ, zero, suc, ◌+◌, ◌*◌, ◌-◌, ◌<◌, ◌≤◌, ◌^◌, ◌⊎◌, Bool, true, false, if◌then◌else◌, ◌==◌, ◌&&◌, nat_lt, not, List, [], ◌∷◌, ◌++◌, length, slice_index, slice_set, filter, replicate}
+use Rattle.list_machine.specs.Words.{Word}
+use Rattle.list_machine.specs.Facts.{IsAt, total, Chain, claimed_chain, owned_chain, list_of, is_shut, left_in}
 use Rattle.list_machine.specs.declared.views.Grant.{Grant}
 use Rattle.list_machine.specs.declared.views.LinkWord.{LinkWord}
 use Rattle.list_machine.specs.declared.views.LinkWord.TheVariants.{OfList, OfChunk}
@@ -14,8 +12,8 @@ use Rattle.list_machine.specs.declared.views.Stage.TheVariants.{Open, Swept, Cle
 use Rattle.list_machine.specs.declared.views.Leaf.{Leaf}
 use Rattle.list_machine.specs.declared.views.Book.{Book}
 use Rattle.list_machine.specs.declared.views.Owner.{Owner}
-use Rattle.list_machine.specs.declared.views.Claim.{Claim}
-use Rattle.list_machine.specs.declared.views.Claim.TheVariants.{Nothing, Place}
+use Rattle.list_machine.specs.declared.views.Unfiled.{Unfiled}
+use Rattle.list_machine.specs.declared.views.Unfiled.TheVariants.{Nothing, Place}
 use Rattle.list_machine.specs.declared.views.Guest.{Guest}
 
 -- Guests
@@ -23,17 +21,15 @@ use Rattle.list_machine.specs.declared.views.Guest.{Guest}
 -- the grants with one less for the list
 abbrev pub use_of : ℕ → List Grant → List Grant
 use_of l [] = []
-use_of l (g ∷ gs) = if g.list == l && nat_lt 0 g.n then record { list = g.list; n = g.n - 1 } ∷ gs else g ∷ use_of l gs
+use_of l (g ∷ gs) = if g.list == l && nat_lt 0 g.n then record g { n = g.n - 1 } ∷ gs else g ∷ use_of l gs
 
 -- a guest with another claim and other facts
-abbrev pub knowing : Guest → Claim → List Fact → Guest
-knowing v claim facts = record { out = v.out; birth = v.birth; grants = v.grants; claim = claim; facts = facts }
+abbrev pub guest_with : Guest → Unfiled → List Fact → Guest
+guest_with v claim facts = record v { claim = claim; facts = facts }
 
 -- a guest that has claimed in the list, whose claim word was x: it has the place, or knows that the list is shut
 abbrev pub after_claim : Guest → ℕ → Word → Guest
-after_claim v l x = record {
-  out = v.out;
-  birth = v.birth;
+after_claim v l x = record v {
   grants = use_of l v.grants;
   claim = if x.high then Nothing else Place l x.value;
   facts = if x.high then Closed l ∷ v.facts else v.facts;
@@ -54,43 +50,64 @@ KnowsLink v l (OfChunk b) r = (q : ℕ) × (r ≡ suc q) × KnowsChunk v l q b
 
 -- The owner
 
+-- a list that nothing was done with
+abbrev pub opening_leaf : Leaf
+opening_leaf = record { claimed = []; owned = []; granted = 0; used = 0; stage = Open }
+
+-- the owner of so many lists at the start, when nobody else has a seat
+abbrev pub opening : ℕ → Owner
+opening lists = record { book = record { leaves = replicate lists opening_leaf; order = []; cleared = 0 }; out = 0 ∷ []; facts = [] }
+
+-- the book with this leaf for the list
+abbrev pub book_with : Book → ℕ → Leaf → Book
+book_with b l a = record b { leaves = slice_set b.leaves l a }
+
+-- and the owner with it
 abbrev pub with_leaf : Owner → ℕ → Leaf → Owner
-with_leaf o l a = record { book = record { leaves = slice_set o.book.leaves l a; order = o.book.order; cleared = o.book.cleared }; out = o.out; facts = o.facts }
+with_leaf o l a = record o { book = book_with o.book l a }
 
 -- the owner knows one more fact
-abbrev pub learning : Owner → Fact → Owner
-learning o f = record { book = o.book; out = o.out; facts = f ∷ o.facts }
+abbrev pub with_fact : Owner → Fact → Owner
+with_fact o f = record o { facts = f ∷ o.facts }
 
+-- a list at another stage
 abbrev pub with_stage : Leaf → Stage → Leaf
-with_stage a t = record { claimed = a.claimed; owned = a.owned; granted = a.granted; used = a.used; stage = t }
+with_stage a t = record a { stage = t }
 
+-- a list with a chunk more in its claimed or its owned chain, with a used slot more, or with places granted
 abbrev pub with_claimed : Leaf → ℕ → Leaf
-with_claimed a c = record { claimed = a.claimed ++ c ∷ []; owned = a.owned; granted = a.granted; used = a.used; stage = a.stage }
+with_claimed a c = record a { claimed = a.claimed ++ c ∷ [] }
 
 abbrev pub with_owned : Leaf → ℕ → Leaf
-with_owned a c = record { claimed = a.claimed; owned = a.owned ++ c ∷ []; granted = a.granted; used = a.used; stage = a.stage }
+with_owned a c = record a { owned = a.owned ++ c ∷ [] }
 
 abbrev pub with_one_used : Leaf → Leaf
-with_one_used a = record { claimed = a.claimed; owned = a.owned; granted = a.granted; used = suc a.used; stage = a.stage }
+with_one_used a = record a { used = suc a.used }
 
 abbrev pub with_grant : Leaf → ℕ → Leaf
-with_grant a n = record { claimed = a.claimed; owned = a.owned; granted = a.granted + n; used = a.used; stage = a.stage }
+with_grant a n = record a { granted = a.granted + n }
 
+-- a list that has given its chunks back
 abbrev pub without_chains : Leaf → Leaf
-without_chains a = record { claimed = []; owned = []; granted = a.granted; used = a.used; stage = a.stage }
+without_chains a = record a { claimed = []; owned = [] }
+
+-- the list is shut, and stands at the end of the order
+abbrev pub book_after_shut : Book → ℕ → Leaf → ℕ → Book
+book_after_shut b l a found = record b { leaves = slice_set b.leaves l (with_stage a (Swept (length b.order) found 0)); order = b.order ++ l ∷ [] }
 
 -- the owner has shut the list, whose claim count was found
 abbrev pub after_shut : Owner → ℕ → Leaf → ℕ → Owner
-after_shut o l a found = record {
-  book = record { leaves = slice_set o.book.leaves l (with_stage a (Swept (length o.book.order) found 0)); order = o.book.order ++ l ∷ []; cleared = o.book.cleared };
-  out = o.out ++ 0 ∷ [];
-  facts = Closed l ∷ o.facts;
-}
+after_shut o l a found = record { book = book_after_shut o.book l a found; out = o.out ++ 0 ∷ []; facts = Closed l ∷ o.facts }
 
 -- the place i of a chain is the next that a sweep marks
 abbrev pub IsNextMark : Leaf → ℕ → ℕ → Chain → ℕ → Type 0
 IsNextMark a found marks claimed_chain i = (i ≡ marks) × (i < found)
 IsNextMark a found marks owned_chain i = (found + i ≡ marks) × (i < a.used)
+
+-- a sweep of the list marks the place i of a chain
+abbrev pub IsSweptPlace : Leaf → ℕ → Chain → ℕ → Type 0
+IsSweptPlace a found claimed_chain i = i < found
+IsSweptPlace a found owned_chain i = i < a.used
 
 -- what a mark shows of a slot
 abbrev pub mark_shows : ℕ → ℕ → ℕ → Word → Fact
@@ -111,16 +128,17 @@ is_kept l (Link h from r c) = not (h == l)
 is_kept l (Closed h) = true
 is_kept l (Empty h c k) = not (h == l)
 
--- the owner has begun to clear the list
+-- the clearing of the list has begun, with one word
+abbrev pub book_after_first_clear : Book → ℕ → Leaf → Book
+book_after_first_clear b l a = record b { leaves = slice_set b.leaves l (with_stage a (Cleared b.cleared 1)); cleared = suc b.cleared }
+
+-- the owner has begun to clear the list, and knows of it only that it is shut
 abbrev pub after_first_clear : Owner → ℕ → Leaf → Owner
-after_first_clear o l a = record {
-  book = record { leaves = slice_set o.book.leaves l (with_stage a (Cleared o.book.cleared 1)); order = o.book.order; cleared = suc o.book.cleared };
-  out = o.out;
-  facts = filter (is_kept l) o.facts;
-}
+after_first_clear o l a = record o { book = book_after_first_clear o.book l a; facts = filter (is_kept l) o.facts }
 
 -- Making seats and taking them back
 
+-- the lists, of which the first has the number l, with these grants
 abbrev pub leaves_after_grants : ℕ → List Leaf → List Grant → List Leaf
 leaves_after_grants l [] gs = []
 leaves_after_grants l (a ∷ es) gs = with_grant a (left_in l gs) ∷ leaves_after_grants (suc l) es gs
@@ -135,16 +153,15 @@ is_open_at (a ∷ es) (suc l) = is_open_at es l
 abbrev pub open_facts : List Leaf → List Fact → List Fact
 open_facts leaves facts = filter (λ f. is_open_at leaves (list_of f)) facts
 
+-- the book with these grants
+abbrev pub book_after_grants : Book → List Grant → Book
+book_after_grants b gs = record b { leaves = leaves_after_grants 0 b.leaves gs }
+
 -- the owner has made a seat with these grants
 abbrev pub after_split : Owner → List Grant → Owner
-after_split o gs =
-    let shuts = length o.book.order in
-    record {
-      book = record { leaves = leaves_after_grants 0 o.book.leaves gs; order = o.book.order; cleared = o.book.cleared };
-      out = slice_set o.out shuts (suc (slice_index o.out shuts));
-      facts = o.facts;
-    }
+after_split o gs = let shuts = length o.book.order in record o { book = book_after_grants o.book gs; out = slice_set o.out shuts (suc (slice_index o.out shuts)) }
 
+-- the seat that it has made
 abbrev pub newcomer : Owner → List Grant → Guest
 newcomer o gs = record { out = true; birth = length o.book.order; grants = gs; claim = Nothing; facts = open_facts o.book.leaves o.facts }
 
@@ -159,4 +176,4 @@ nobody = record { out = false; birth = 0; grants = []; claim = Nothing; facts = 
 
 -- the owner has taken the seat back
 abbrev pub after_join : Owner → Guest → Owner
-after_join o v = record { book = o.book; out = slice_set o.out v.birth (slice_index o.out v.birth - 1); facts = v.facts ++ o.facts }
+after_join o v = record o { out = slice_set o.out v.birth (slice_index o.out v.birth - 1); facts = v.facts ++ o.facts }

@@ -1,10 +1,12 @@
 -- The words of lists: 64 bits, read as a number below 2 ^ 63 and a top bit.
 use Rattle.std.specs.Prelude.{ℕ, suc, ◌+◌, ◌*◌, ◌-◌, ◌%◌, ◌^◌, Bool, true, false, nat_le, ◌&&◌, if◌then◌else◌, Option, Some, None}
 
+-- a word
 pub record Word : Type 0 where
   pub value : ℕ
   pub high : Bool
 
+-- the word of these parts
 abbrev pub word : ℕ → Bool → Word
 word n b = record { value = n; high = b }
 

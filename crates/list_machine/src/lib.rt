@@ -8,6 +8,10 @@ mod tests;
 mod views;
 mod words;
 
-pub use laws::{facts_outlast_steps, steps_keep_the_rule};
-pub use views::{Book, Claim, Fact, Grant, Guest, Leaf, LinkWord, Owner, Stage};
+pub use laws::{
+    claim_counts_are_small, claimed_places_have_chunks, facts_agree, facts_outlast_steps,
+    items_are_swept, late_lists_are_shut, steps_keep_the_rule, sweeps_go_on,
+    the_rule_holds_at_the_start, walks_are_short,
+};
+pub use views::{Book, Fact, Grant, Guest, Leaf, LinkWord, Owner, Stage, Unfiled};
 pub use words::{Claimed, claim, clear, file, item_of, link, mark, shut, word_is_value_and_bit};

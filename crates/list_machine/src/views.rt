@@ -33,9 +33,15 @@ pub enum Fact {
         chunk: u64,
     },
     /// The list is shut.
-    Closed { list: u64 },
+    Closed {
+        list: u64,
+    },
     /// The slot was marked as moved while it had no item, so it gets none.
-    Empty { list: u64, chunk: u64, slot: u64 },
+    Empty {
+        list: u64,
+        chunk: u64,
+        slot: u64,
+    },
 }
 
 /// How far the life of a list has come.
@@ -76,7 +82,7 @@ pub struct Owner {
 }
 
 /// The place that a filer has claimed and not filed into yet.
-pub enum Claim {
+pub enum Unfiled {
     Nothing,
     Place { list: u64, index: u64 },
 }
@@ -87,6 +93,6 @@ pub struct Guest {
     pub out: bool,
     pub birth: u64,
     pub grants: LinkedList<Grant>,
-    pub claim: Claim,
+    pub claim: Unfiled,
     pub facts: LinkedList<Fact>,
 }

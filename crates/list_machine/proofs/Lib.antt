@@ -1,0 +1,23 @@
+mod Examples
+pub mod Bits
+pub mod Lists
+pub mod Puts
+pub mod Frames
+pub mod Changes
+pub mod Guests
+pub mod Grants
+pub mod Stages
+pub mod Claims
+pub mod Fills
+pub mod Shuts
+pub mod Marks
+pub mod LinkReads
+pub mod Links
+pub mod Seats
+pub mod Clears
+pub mod Keeping
+pub mod Knowledge
+pub mod WalkedLinks
+pub mod Openings
+pub mod Shapes
+pub mod Rows

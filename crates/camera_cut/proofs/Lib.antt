@@ -1,0 +1,9 @@
+pub mod CutLaws
+pub mod Examples
+pub mod ItemLaws
+pub mod LeafAlone
+pub mod Lists
+pub mod OrderLaws
+pub mod PathLaws
+pub mod Ranges
+pub mod Sizes

@@ -1,0 +1,5 @@
+pub mod Descents
+pub mod Fields
+pub mod Kept
+pub mod Outlines
+pub mod Walks

@@ -1,5 +1,7 @@
+pub mod Closing
 pub mod Lists
 pub mod Numbers
+pub mod Opening
 pub mod Passing
 pub mod Turning
 pub mod Telling

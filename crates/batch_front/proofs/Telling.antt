@@ -8,7 +8,7 @@ use mathlib.Core.Option.{none, some}
 use Rattle.atomic_table.specs.Table.{State, step, keeps, Allows, Splits, Joins}
 use Rattle.atomic_table.proofs.Lists.{set_else, set_again, at_snoc, at_longer}
 use Rattle.batch_front.specs.Records.{Record, IsPrefix, own}
-use Rattle.batch_front.specs.Turns.{At, total, Each, longer, tickets, Has, weight, card, pass_view, news_view, blank, comparing, dealer, dealt, teller, hearer, gatherer, Stands, Fits, IsHome, IsOut, InTurn, Kept, Sat, Compared}
+use Rattle.batch_front.specs.Turns.{At, total, Each, longer, tickets, Has, weight, card, pass_view, news_view, blank, comparing, dealer, dealt, teller, hearer, gatherer, Stands, Fits, IsHome, IsOut, InTurn, Kept, Sat, Compared, IsAway, IsDealing, IsGathering, new_card}
 use Rattle.batch_front.specs.declared.event.Event.{Event}
 use Rattle.batch_front.specs.declared.rule.Card.{Card}
 use Rattle.batch_front.specs.declared.rule.Place.{Place}
@@ -180,3 +180,25 @@ module _ {S V : Type 0} (record_of : V → Record) (site_of : V → S) (site : S
         },
         (refl, ((l.1, l.2), tt)),
       )
+
+  -- the same of seats whose views are known by equations
+  pub tells_seen : (id : ℕ) (v : View S) (c : Card S) → v ≡ pass_view c v.place → Splits Ruled id v v (teller v)
+  tells_seen id v c e = subst (λ (u : View S). Splits Ruled id u u (teller u)) (sym e) (tells id c v.place)
+
+  pub hears_news : (id : ℕ) (v : View S) (c : Card S) (other : ℕ) (w : View S) → v ≡ pass_view c v.place → w ≡ news_view w.told → Joins Ruled id v other w (hearer v w) blank
+  hears_news id v c other w e f = subst (λ (z : View S × View S). Joins Ruled id z.0 other z.1 (hearer z.0 z.1) blank) (λ i. (sym e i, sym f i)) (hears id c v.place other w.told)
+
+  pub compares_heard : (slots id : ℕ) (me old : Sat S V) (c : Card S) (w : View S) → old.0 ≡ pass_view c old.0.place → me ≡ (hearer old.0 w, old.1) → Allows Ruled slots id me 2 (λ n. n) (Compared (step slots 2 0 0 none) me)
+  compares_heard slots id me old c w e given =
+      let is : me ≡ (record { cards = c ∷ []; told = w.told; place = old.0.place }, old.1) = given ∙ ap (λ (v : View S). (record { cards = v.cards; told = w.told; place = old.0.place }, old.1)) e in
+      subst (λ (m : Sat S V). Allows Ruled slots id m 2 (λ n. n) (Compared (step slots 2 0 0 none) m)) (sym is) (compares slots id c w.told old.0.place old.1)
+
+  pub deals_next : (id : ℕ) (me : Sat S V) (x : S) (first more : ℕ) → IsDealing x (range_with_len first (suc more)) me → Splits Ruled id me.0 (dealer me.0) (dealt me.0)
+  deals_next id me x first more e = subst (λ (v : View S). Splits Ruled id v (dealer v) (dealt v)) (sym (ap (λ (m : Sat S V). m.0) e)) (deals id (new_card x first) (map (new_card x) (range_with_len (first + 1) more)))
+
+  pub gathers_home : (id : ℕ) (me : Sat S V) (cards : List (Card S)) (other : ℕ) (w : Sat S V) → IsGathering cards me → IsAway w → Joins Ruled id me.0 other w.0 (gatherer me.0 w.0) blank
+  gathers_home id me cards other w g a = subst (λ (z : View S × View S). Joins Ruled id z.0 other z.1 (gatherer z.0 z.1) blank) (λ i. ((sym g.1 i).0, (sym a.1 i).0)) (gathers id cards g.0 other a.0)
+
+-- what is left to deal
+pub dealt_next : {S V : Type 0} (me new : Sat S V) (x : S) (first more : ℕ) → IsDealing x (range_with_len first (suc more)) me → new ≡ (dealer me.0, me.1) → IsDealing x (range_with_len (first + 1) more) new
+dealt_next {S} {V} me new x first more e given = given ∙ ap (λ (m : Sat S V). (dealer m.0, m.1)) e

@@ -7,10 +7,10 @@ use mathlib.Core.Option.{none, some}
 use mathlib.Core.Option as core
 use native.Mathlib.Decide.{ℕ_discrete}
 use lib.ListN.{get_elem?}
-use Rattle.atomic_table.specs.Table.{State, step, keeps, takes, gives, Allows}
+use Rattle.atomic_table.specs.Table.{State, step, keeps, takes, gives, rest, Allows}
 use Rattle.atomic_table.proofs.Lists.{set_else, set_again, one_turn}
 use Rattle.batch_front.specs.Records.{Record, IsPrefix, own}
-use Rattle.batch_front.specs.Turns.{At, total, Each, tickets, Has, weight, card, pass_view, adding, seeing, Stands, Fits, IsHome, IsOut, InTurn, Kept, Sat, Drew, Looked, Committed, Left, IsAway, IsWaiting, IsHolding}
+use Rattle.batch_front.specs.Turns.{At, total, Each, tickets, Has, weight, card, pass_view, first_seen, adding, seeing, Stands, Fits, IsHome, IsOut, InTurn, Kept, Sat, Drew, Saw, Committed, Left, IsAway, IsWaiting, IsHolding}
 use Rattle.batch_front.specs.declared.event.Event.{Event}
 use Rattle.batch_front.specs.declared.rule.Card.{Card}
 use Rattle.batch_front.specs.declared.rule.Place.{Place}
@@ -118,7 +118,7 @@ module _ {S V : Type 0} (record_of : V → Record) (site_of : V → S) (site : S
           (r.drawn, sym is, refl),
         )
 
-    pub looks : (t : ℕ) → Allows Ruled slots id (pass_view c (Waits t), []) 1 (λ n. n) (Looked record_of site_of (step slots 1 0 0 none) (pass_view c (Waits t), []))
+    pub looks : (t : ℕ) → Allows Ruled slots id (pass_view c (Waits t), []) 1 (λ n. n) (Saw record_of site_of (step slots 1 0 0 none) (pass_view c (Waits t), []))
     looks t s k _ at _ =
         let r = k.turns in
         let v : View S = pass_view c (Waits t) in
@@ -277,8 +277,13 @@ module _ {S V : Type 0} (record_of : V → Record) (site_of : V → S) (site : S
     pub draws_away : IsAway me → Allows Ruled slots id me 0 (λ n. (n + 1) % 18446744073709551616) (Drew (step slots 0 1 0 none) me)
     draws_away a = subst (λ (m : Sat S V). Allows Ruled slots id m 0 (λ n. (n + 1) % 18446744073709551616) (Drew (step slots 0 1 0 none) m)) (sym a.1) (draws slots id a.0 [])
 
-    pub looks_waiting : (ticket : ℕ) → IsWaiting me ticket → Allows Ruled slots id me 1 (λ n. n) (Looked record_of site_of (step slots 1 0 0 none) me)
-    looks_waiting ticket a = subst (λ (m : Sat S V). Allows Ruled slots id m 1 (λ n. n) (Looked record_of site_of (step slots 1 0 0 none) m)) (sym a.3) (looks slots id a.0 a.1)
+    pub looks_waiting : (ticket : ℕ) → IsWaiting me ticket → Allows Ruled slots id me 1 (λ n. n) (Saw record_of site_of (step slots 1 0 0 none) me)
+    looks_waiting ticket a = subst (λ (m : Sat S V). Allows Ruled slots id m 1 (λ n. n) (Saw record_of site_of (step slots 1 0 0 none) m)) (sym a.3) (looks slots id a.0 a.1)
 
     pub commits_holding : (e : Event) → IsHolding me → Allows Ruled slots id me 2 (λ n. (n + 1) % 18446744073709551616) (Committed e (step slots 2 1 0 none) me)
     commits_holding e a = subst (λ (m : Sat S V). Allows Ruled slots id m 2 (λ n. (n + 1) % 18446744073709551616) (Committed e (step slots 2 1 0 none) m)) (sym a.2) (commits slots id a.0 a.1 e ((0, None) ∷ []))
+
+    pub leaves_holding : (old : Sat S V) (x : V) → IsHolding old → me ≡ (old.0, (0, Some x) ∷ rest old.1) → record_of x ≡ first_seen old.0.cards → site_of x ≡ site → Allows Ruled slots id me 1 (λ n. (n + 1) % 18446744073709551616) (Left (step slots 1 1 0 none) me)
+    leaves_holding old x a given stands sited =
+        let is : me ≡ (pass_view a.0 (Holds a.1), (0, Some x) ∷ []) = given ∙ ap (λ (m : Sat S V). (m.0, (0, Some x) ∷ rest m.1)) a.2 in
+        subst (λ (m : Sat S V). Allows Ruled slots id m 1 (λ n. (n + 1) % 18446744073709551616) (Left (step slots 1 1 0 none) m)) (sym is) (leaves slots id a.0 a.1 x (stands ∙ ap (λ (m : Sat S V). first_seen m.0.cards) a.2) sited)

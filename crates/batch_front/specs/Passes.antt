@@ -1,7 +1,7 @@
 -- Fronts, passes and what they give, as contracts see them.
-use Rattle.std.specs.Prelude.{◌≡◌, ◌≢◌, ◌≤◌, ℕ, Bool, List, [], ◌∷◌, length, Option, Some, None}
+use Rattle.std.specs.Prelude.{◌≡◌, ◌≢◌, ◌≤◌, ℕ, Bool, List, [], ◌∷◌, ◌++◌, length, Option, Some, None}
 use Rattle.atomic_table.specs.Seated.{TableId}
-use Rattle.batch_front.specs.Records.{Record, journal}
+use Rattle.batch_front.specs.Records.{Record, IsPrefix, own, journal}
 use Rattle.batch_front.specs.Turns.{Sat, card, pass_view, news_view, first_seen}
 use Rattle.batch_front.specs.declared.event.Event.{Event}
 use Rattle.batch_front.specs.declared.rule.Card.{Card}
@@ -41,6 +41,22 @@ IsPenOf pass pen = (pen.front ≡ pass.front) × (pass.turn ≡ Some pen.turn)
 -- a pass that has done nothing
 abbrev pub new_pass : {S : Type 0} → FrontValue S → ℕ → PassValue S
 new_pass front number = record { front = front; number = number; seen = []; mine = []; turn = None }
+
+-- the pass has added an event
+abbrev pub added : {S : Type 0} → PassValue S → Event → PassValue S
+added pass e = record { front = pass.front; number = pass.number; seen = pass.seen ++ (e, pass.number) ∷ []; mine = pass.mine ++ e ∷ []; turn = pass.turn }
+
+-- what is gathered of a pass
+abbrev pub card_of : {S : Type 0} → PassValue S → Card S
+card_of pass = card pass.front.site pass.number pass.seen pass.mine
+
+-- the pass is of the front, and holds no turn
+abbrev pub IsHome : {S : Type 0} → FrontValue S → PassValue S → Type 0
+IsHome front pass = (pass.front ≡ front) × (pass.turn ≡ None)
+
+-- the pass has seen a beginning of the record, in which its own events are just those that it added
+abbrev pub IsIn : {S : Type 0} → Record → PassValue S → Type 0
+IsIn events pass = IsPrefix pass.seen events × (own events pass.number ≡ pass.mine)
 
 -- three words, one slot, and 1 to 64 passes
 pub record IsFront (table : TableId) (passes : ℕ) : Type 0 where

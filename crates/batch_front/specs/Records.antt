@@ -53,3 +53,9 @@ event_of Published (Some b) = Publication b.input b.points
 event_of Admitted None = Look
 event_of Published None = Look
 event_of Looked batch = Look
+
+-- how many publications an act is
+abbrev pub publications : Act → ℕ
+publications Admitted = 0
+publications Published = 1
+publications Looked = 0

@@ -174,8 +174,8 @@ module _ {S : Type 0} {V : Type 0} where
   Drew st m r n = (t : ℕ) × (t % 18446744073709551616 ≡ r) × (n ≡ (placed m.0 (Waits t), m.1))
 
   -- Its ticket was served: it has the value, which stands for all that it has seen now, and goes on from what it had seen. Or it was not
-  abbrev pub Looked : (V → Record) → (V → S) → Step (Option V) → Sat S V → ℕ → Sat S V → Type 0
-  Looked record_of site_of st m r n = (t : ℕ) → m.0.place ≡ Waits t
+  abbrev pub Saw : (V → Record) → (V → S) → Step (Option V) → Sat S V → ℕ → Sat S V → Type 0
+  Saw record_of site_of st m r n = (t : ℕ) → m.0.place ≡ Waits t
       → (r ≡ t % 18446744073709551616 → (x : V) × Each (Stands (record_of x) (site_of x)) m.0.cards × (n ≡ (seeing m.0 (record_of x) (Holds t), (0, Some x) ∷ m.1)))
       × (r ≢ t % 18446744073709551616 → n ≡ m)
 
@@ -208,3 +208,11 @@ module _ {S : Type 0} {V : Type 0} where
   -- the same, and the value is out
   abbrev pub HasTaken : (V → Record) → (V → S) → Sat S V → V → Sat S V → Type 0
   HasTaken record_of site_of m x n = (t : ℕ) × Each (Stands (record_of x) (site_of x)) m.0.cards × (n ≡ (seeing m.0 (record_of x) (Holds t), (0, None) ∷ []))
+
+  -- a seat with new cards of these numbers, which deals them
+  abbrev pub IsDealing : S → List ℕ → Sat S V → Type 0
+  IsDealing site numbers m = m ≡ (hand_view site numbers, [])
+
+  -- a seat that gathers cards
+  abbrev pub IsGathering : List (Card S) → Sat S V → Type 0
+  IsGathering cards m = (told : Record) × (m ≡ (record { cards = cards; told = told; place = Away }, []))

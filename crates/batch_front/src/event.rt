@@ -1,4 +1,7 @@
 //! What is recorded, and what stands for a record.
+ghost use Rattle.std.specs.Prelude.{◌≡◌};
+ghost use Rattle.batch_front.specs.Records.{publications};
+
 use cube_math::Point;
 use std::collections::LinkedList;
 
@@ -11,6 +14,18 @@ pub enum Act {
     Published,
     /// It looked.
     Looked,
+}
+
+impl Act {
+    // How many publications an act is.
+    pub(crate) fn publications(self) -> u32
+        ensures { result ≡ publications self }
+    {
+        match self {
+            Act::Published => 1,
+            Act::Admitted | Act::Looked => 0,
+        }
+    }
 }
 
 /// What the record has of an act: of a batch, the number of its input and its points. No value of it is made.

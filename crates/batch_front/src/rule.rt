@@ -68,9 +68,9 @@ pub struct Look<V> {
 }
 
 impl<V: Chronicle> Play<Option<V>, View<V::Site>> for Look<V> {
-    ghost use Rattle.batch_front.specs.Turns.{Looked};
+    ghost use Rattle.batch_front.specs.Turns.{Saw};
 
-    ghost then = { Looked V.record V.site };
+    ghost then = { Saw V.record V.site };
 }
 
 /// An event, which a call picks.

@@ -1,22 +1,21 @@
 -- What a closed front shows: the value is back, and all events are of the passes that came back.
-use Rattle.std.proofs.Common.{◌≡◌, ℕ, zero, suc, ◌+◌, ◌<◌, ◌≤◌, ⊎_elim, cond, nat_eq, List, [], ◌∷◌, map, length, refl, ap, sym, ◌∙◌, subst, arith}
+use Rattle.std.proofs.Common.{◌≡◌, ℕ, zero, suc, ◌<◌, ◌≤◌, ⊎_elim, cond, nat_eq, List, [], ◌∷◌, map, length, refl, ap, sym, ◌∙◌, subst, arith}
 use Rattle.std.specs.Prelude.{Option, Some, None}
 use Rattle.std.specs.List.{All, Contains, range_with_len, slice_index_or}
 use mathlib.Core.Option.{none, some, some-injective, some-ne-none}
 use lib.ListN.{get_elem?}
 use mathlib.Core.Logic.{dite}
 use native.Mathlib.Decide.{ℕ_discrete}
-use Rattle.atomic_table.specs.Table.{State, Final, Seen}
-use Rattle.batch_front.specs.Records.{Record, IsPrefix, own}
-use Rattle.batch_front.specs.Turns.{At, total, Each, tickets, weight, Stands, Fits, InTurn, Kept, Sat, IsGathering}
+use Rattle.atomic_table.specs.Table.{Final, Seen}
+use Rattle.batch_front.specs.Records.{Record}
+use Rattle.batch_front.specs.Turns.{At, total, Each, tickets, weight, Stands, Kept, Sat, IsGathering}
 use Rattle.batch_front.specs.Passes.{PassValue, card_of, IsIn}
 use Rattle.batch_front.specs.declared.event.Event.{Event}
 use Rattle.batch_front.specs.declared.rule.Card.{Card}
-use Rattle.batch_front.specs.declared.rule.Place.{Place}
-use Rattle.batch_front.specs.declared.rule.Place.TheVariants.{Away, Waits, Holds}
+use Rattle.batch_front.specs.declared.rule.Place.TheVariants.{Away, Holds}
 use Rattle.batch_front.specs.declared.rule.View.{View}
 use Rattle.batch_front.proofs.Lists.{one_of, two_of, total_le, at_same, each_map}
-use Rattle.batch_front.proofs.Numbers.{is, is_hit, is_miss, there, count}
+use Rattle.batch_front.proofs.Numbers.{is, is_miss, there, count}
 
 module _ {A : Type 0} where
   -- where one item has all of g, it has all of what is no more than g

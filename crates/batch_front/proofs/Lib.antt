@@ -1,4 +1,5 @@
 pub mod Closing
+pub mod Examples
 pub mod Lists
 pub mod Numbers
 pub mod Opening

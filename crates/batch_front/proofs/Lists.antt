@@ -1,5 +1,5 @@
 -- Lists with one change or one item more, and sums over them.
-use Rattle.std.proofs.Common.{◌≡◌, ℕ, zero, suc, ◌+◌, ◌<◌, ◌≤◌, ◌≢◌, List, [], ◌∷◌, ◌++◌, set, sym, refl, ap, ◌∙◌, subst, arith, ⊎_elim}
+use Rattle.std.proofs.Common.{◌≡◌, ℕ, zero, suc, ◌+◌, ◌≤◌, ◌≢◌, List, [], ◌∷◌, ◌++◌, set, sym, refl, ap, ◌∙◌, subst, arith, ⊎_elim}
 use mathlib.Core.Option.{some-injective, some-ne-none}
 use Rattle.atomic_table.proofs.Lists.{at_set}
 use Rattle.batch_front.specs.Turns.{At, total, Each}

@@ -1,12 +1,11 @@
 -- The rule holds of a new front.
-use Rattle.std.proofs.Common.{◌≡◌, ℕ, zero, suc, ◌+◌, ◌≤◌, inl, List, [], ◌∷◌, map, refl, ap, sym, ◌∙◌, subst, arith}
-use Rattle.std.specs.Prelude.{Option, Some}
+use Rattle.std.proofs.Common.{◌≡◌, ℕ, zero, suc, ◌+◌, ◌≤◌, inl, List, [], ◌∷◌, map, refl, ap, sym, subst, arith}
+use Rattle.std.specs.Prelude.{Some}
 use Rattle.std.specs.List.{range_with_len}
 use mathlib.Core.Option.{some-injective, some-ne-none}
 use Rattle.atomic_table.specs.Table.{opening}
 use Rattle.batch_front.specs.Records.{Record}
 use Rattle.batch_front.specs.Turns.{At, total, Each, Has, weight, new_card, hand_view, first_view, Stands, Fits, Kept}
-use Rattle.batch_front.specs.declared.rule.Card.{Card}
 use Rattle.batch_front.specs.declared.rule.Place.{Place}
 use Rattle.batch_front.specs.declared.rule.View.{View}
 

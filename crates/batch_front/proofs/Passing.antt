@@ -4,7 +4,7 @@ use Rattle.std.specs.Prelude.{Option, Some, None, IsNone, option_map}
 use Rattle.std.proofs.lemmas.List.{length-append}
 use Rattle.std.proofs.lemmas.List.Elements.{filter_map-append}
 use Rattle.cube_math.specs.Batches.{BatchValue}
-use Rattle.batch_front.specs.Records.{Record, IsPrefix, own, journal, entry_of, event_of, publications}
+use Rattle.batch_front.specs.Records.{Record, IsPrefix, journal, entry_of, event_of, publications}
 use Rattle.batch_front.specs.Turns.{Sat, Each, card, pass_view, first_seen, longer, adding, hearer, comparing, IsAway, IsHolding}
 use Rattle.batch_front.specs.Passes.{turn_of, taken, first_mine, IsPass, IsNews}
 use Rattle.batch_front.specs.declared.event.Act.{Act}

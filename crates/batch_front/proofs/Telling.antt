@@ -1,21 +1,20 @@
 -- Dealing, telling, hearing, comparing and gathering keep the rule of the front.
-use Rattle.std.proofs.Common.{◌≡◌, ℕ, suc, ◌+◌, ◌%◌, ◌<◌, ◌≤◌, ◌≢◌, ◌⊎◌, inl, inr, ⊎_elim, List, [], ◌∷◌, ◌++◌, map, length, get_or, set, sym, refl, ap, ◌∙◌, subst, arith}
-use Rattle.std.specs.Prelude.{Option, Some}
+use Rattle.std.proofs.Common.{◌≡◌, ℕ, suc, ◌+◌, inl, inr, ⊎_elim, List, [], ◌∷◌, ◌++◌, map, get_or, set, sym, refl, ap, ◌∙◌, subst, arith}
+use Rattle.std.specs.Prelude.{Option}
 use Rattle.std.specs.List.{range_with_len}
 use mathlib.Core.Logic.{dite}
 use native.Mathlib.Decide.{ℕ_discrete}
-use mathlib.Core.Option.{none, some}
+use mathlib.Core.Option.{none}
 use Rattle.atomic_table.specs.Table.{State, step, keeps, Allows, Splits, Joins}
 use Rattle.atomic_table.proofs.Lists.{set_else, set_again, at_snoc, at_longer}
-use Rattle.batch_front.specs.Records.{Record, IsPrefix, own}
-use Rattle.batch_front.specs.Turns.{At, total, Each, longer, tickets, Has, weight, card, pass_view, news_view, blank, comparing, dealer, dealt, teller, hearer, gatherer, Stands, Fits, IsHome, IsOut, InTurn, Kept, Sat, Compared, IsAway, IsDealing, IsGathering, new_card}
-use Rattle.batch_front.specs.declared.event.Event.{Event}
+use Rattle.batch_front.specs.Records.{Record, IsPrefix}
+use Rattle.batch_front.specs.Turns.{At, total, Each, tickets, Has, weight, pass_view, news_view, blank, comparing, dealer, dealt, teller, hearer, gatherer, Stands, Fits, IsOut, InTurn, Kept, Sat, Compared, IsAway, IsDealing, IsGathering, new_card}
 use Rattle.batch_front.specs.declared.rule.Card.{Card}
 use Rattle.batch_front.specs.declared.rule.Place.{Place}
-use Rattle.batch_front.specs.declared.rule.Place.TheVariants.{Away, Waits, Holds}
+use Rattle.batch_front.specs.declared.rule.Place.TheVariants.{Away}
 use Rattle.batch_front.specs.declared.rule.View.{View}
 use Rattle.batch_front.proofs.Lists.{each_set, one_set, total_set, total_same, total-append, at_same, at_set_same, each-append}
-use Rattle.batch_front.proofs.Numbers.{longer_is, longer_all, prefix_all}
+use Rattle.batch_front.proofs.Numbers.{longer_is, longer_all}
 
 module _ {S V : Type 0} (record_of : V → Record) (site_of : V → S) (site : S) (number : ℕ) where
   abbrev St : Type 0

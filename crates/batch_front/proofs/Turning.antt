@@ -1,7 +1,6 @@
 -- Drawing a ticket, seeing it served, adding an event and leaving keep the rule of the front.
-use Rattle.std.proofs.Common.{◌≡◌, ℕ, suc, ◌+◌, ◌%◌, ◌<◌, ◌≤◌, ◌≢◌, ◌⊎◌, inl, inr, ⊎_elim, List, [], ◌∷◌, ◌++◌, map, length, length-append, get_or, set, sym, refl, ap, ◌∙◌, subst, arith}
+use Rattle.std.proofs.Common.{◌≡◌, ℕ, suc, ◌+◌, ◌%◌, ◌<◌, ◌≤◌, ◌≢◌, inl, inr, ⊎_elim, List, [], ◌∷◌, ◌++◌, length, length-append, get_or, set, sym, refl, ap, ◌∙◌, subst, arith}
 use Rattle.std.specs.Prelude.{Option, Some, None}
-use Rattle.std.specs.List.{range_with_len}
 use mathlib.Core.Logic.{dite}
 use mathlib.Core.Option.{none, some}
 use mathlib.Core.Option as core
@@ -10,7 +9,7 @@ use lib.ListN.{get_elem?}
 use Rattle.atomic_table.specs.Table.{State, step, keeps, takes, gives, rest, Allows}
 use Rattle.atomic_table.proofs.Lists.{set_else, set_again, one_turn}
 use Rattle.batch_front.specs.Records.{Record, IsPrefix, own}
-use Rattle.batch_front.specs.Turns.{At, total, Each, tickets, Has, weight, card, pass_view, first_seen, adding, seeing, Stands, Fits, IsHome, IsOut, InTurn, Kept, Sat, Drew, Saw, Committed, Left, IsAway, IsWaiting, IsHolding}
+use Rattle.batch_front.specs.Turns.{At, total, Each, tickets, Has, weight, pass_view, first_seen, adding, seeing, Stands, Fits, Kept, Sat, Drew, Saw, Committed, Left, IsAway, IsWaiting, IsHolding}
 use Rattle.batch_front.specs.declared.event.Event.{Event}
 use Rattle.batch_front.specs.declared.rule.Card.{Card}
 use Rattle.batch_front.specs.declared.rule.Place.{Place}

@@ -19,6 +19,9 @@ use std::snapshot::Snapshot;
 use std::sync::Wait;
 use std::thread;
 
+// How often a pass yields before it sleeps.
+const YIELDS: u32 = 64;
+
 /// The one place where passes wait for each other: a turn by tickets, a value behind it, and one record of what was done in turns.
 #[derive(Drop)]
 pub struct Front<V: Chronicle> {
@@ -104,14 +107,35 @@ impl<V: Chronicle> Front<V> {
         ensures found { HasValue V.record V.site seat.old.me seat.new.me }
     {
         let mut served = false;
+        let mut rounds = 0;
         for _ in rt.forever() {
             served = self.look(seat, ticket);
             if served {
                 break;
             }
-            thread::yield_now();
+            if rounds < YIELDS {
+                rounds += 1;
+                thread::yield_now();
+            } else {
+                self.sleep(rt, ticket);
+            }
         }
         prove!(served);
+    }
+
+    // Sleeps until the next ticket is served, where this one is not served yet. It may wake for no reason.
+    fn sleep<R: Wait>(&self, rt: &R, ticket: u64) {
+        let serving = self.desk.shared.peek(1);
+        if serving != ticket {
+            self.desk.shared.park(rt, 1, (serving % (1 << 32)) as u32);
+        }
+    }
+
+    // Wakes who sleeps for a ticket after this one, if one was drawn. Who draws one later finds the next one served.
+    fn wake(&self, served: u64) {
+        if self.desk.shared.peek(0) != served.wrapping_add(1) {
+            self.desk.shared.wake_all(1);
+        }
     }
 
     // Draws a ticket, waits until it is served, and takes the value.
@@ -191,7 +215,8 @@ impl<V: Chronicle> Front<V> {
             Some(_value) => unreachable!(),
             None => {}
         }
-        self.desk.shared.fetch_add::<Leave>(&mut pass.seat, 1, 1);
+        let served = self.desk.shared.fetch_add::<Leave>(&mut pass.seat, 1, 1);
+        self.wake(served);
     }
 
     /// What the pass has seen, for another pass of this front.
@@ -218,7 +243,8 @@ impl<V: Chronicle> Front<V> {
         let News { seat, known, .. } = news;
         self.desk.shared.join_seat::<Hear>(&mut pass.seat, seat);
         self.desk.shared.load::<Compare>(&mut pass.seat, 2);
-        pass.known = pass.known.max(known);
+        let most = pass.known.max(known);
+        pass.known = most;
     }
 
     // Takes in the card of a pass.

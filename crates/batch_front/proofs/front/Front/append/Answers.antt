@@ -1,4 +1,4 @@
-use Rattle.std.proofs.Common.{arith, ap, sym, ◌∙◌, ◌∷◌, [], ◌++◌, length}
+use Rattle.std.proofs.Common.{arith, ap, ◌∙◌, ◌∷◌, [], length}
 use Rattle.batch_front.specs.Records.{journal, event_of}
 use Rattle.std.specs.Prelude.{option_map}
 use Rattle.batch_front.proofs.Passing.{pass_holding, added_pass, one_more, journal-append}

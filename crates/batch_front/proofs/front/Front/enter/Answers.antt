@@ -1,4 +1,4 @@
-use Rattle.std.proofs.Common.{ap, sym, ◌∙◌}
+use Rattle.std.proofs.Common.{ap, ◌∙◌}
 use Rattle.batch_front.proofs.Passing.{pass_away}
 use Rattle.batch_front.proofs.front.Front.enter.Goals as goal
 

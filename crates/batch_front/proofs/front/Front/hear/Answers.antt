@@ -28,4 +28,4 @@ load-requires g c =
 pub invariant_of-pass : goal.invariant_of-pass
 invariant_of-pass g c =
     let p = c.pass.inside in let q = c.news.inside in let b = c.load.ensures.2 in
-    heard_pass (g.V.Chronicle.site p.opening.value.value.value) p.number p.known p.seat.me c.pass.invariant q.known q.seat.me c.join_seat.new.seat.me c.load.new.seat.me c.news.invariant c.join_seat.ensures.2 b.0 b.1 _ c.max-pass-inside.ensures
+    heard_pass (g.V.Chronicle.site p.opening.value.value.value) p.number p.known p.seat.me c.pass.invariant q.known q.seat.me c.join_seat.new.seat.me c.load.new.seat.me c.news.invariant c.join_seat.ensures.2 b.0 b.1 _ c.max-most.ensures

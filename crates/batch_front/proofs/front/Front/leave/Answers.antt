@@ -3,8 +3,8 @@ use Rattle.batch_front.proofs.Turning.{leaves_holding}
 use Rattle.batch_front.proofs.Passing.{pass_holding}
 use Rattle.batch_front.proofs.front.Front.leave.Goals as goal
 
-pub fetch_add-requires : goal.fetch_add-requires
-fetch_add-requires g c =
+pub fetch_add-served-requires : goal.fetch_add-served-requires
+fetch_add-served-requires g c =
     let s = c.self.inside.desk.shared in let n = c.self.invariant.0.words in let p = c.pass.inside in let e = c.exchange.ensures in
     let table = ap (λ v. v.front.table) c.pass.view_is ∙ (ap (λ v. v.table) c.requires.front ∙ sym (ap (λ f. f.table) c.self.view_is)) in
     let site = ap (λ f. f.site) c.self.view_is in (

@@ -1,4 +1,4 @@
-use Rattle.std.proofs.Common.{sym, subst, ◌∙◌}
+use Rattle.std.proofs.Common.{◌∙◌}
 use Rattle.batch_front.proofs.front.Front.wait.Goals as goal
 
 pub look-served-requires-clause-waits : goal.look-served-requires-clause-waits

@@ -1,0 +1,29 @@
+-- A small record, and what the definitions say of it.
+use Rattle.std.proofs.Common.{◌≡◌, ℕ, [], ◌∷◌, pos, refl}
+use Rattle.cube_math.specs.Points.{PointValue}
+use Rattle.batch_front.specs.Records.{Record, IsPrefix, journal, own, admitted}
+use Rattle.batch_front.specs.declared.event.Event.TheVariants.{Admission, Publication, Look}
+
+-- a white point
+abbrev white : ℕ → PointValue
+white x = record { x = pos x; y = pos 0; z = pos 0; rgb = 16777215 }
+
+-- pass 0 admits a batch of two points, pass 1 looks, pass 1 admits a batch of one point, and pass 0 publishes its batch
+abbrev story : Record
+story = (Admission 5 (white 1 ∷ white 2 ∷ []), 0) ∷ (Look, 1) ∷ (Admission 6 (white 3 ∷ []), 1) ∷ (Publication 5 (white 1 ∷ white 2 ∷ []), 0) ∷ []
+
+-- the journal has the published batch alone, with the pass that published it
+published_once : journal story ≡ record { input = 5; loader = 0; points = white 1 ∷ white 2 ∷ [] } ∷ []
+published_once = refl
+
+-- each pass has its own events, in order, and a pass that did nothing has none
+events_of_each : (own story 0 ≡ Admission 5 (white 1 ∷ white 2 ∷ []) ∷ Publication 5 (white 1 ∷ white 2 ∷ []) ∷ []) × (own story 1 ≡ Look ∷ Admission 6 (white 3 ∷ []) ∷ []) × (own story 2 ≡ [])
+events_of_each = (refl, refl, refl)
+
+-- three points were admitted, whether they were published or not
+admitted_points_count : admitted story ≡ 3
+admitted_points_count = refl
+
+-- what stood before the look is a beginning of it
+before_the_look : IsPrefix ((Admission 5 (white 1 ∷ white 2 ∷ []), 0) ∷ []) story
+before_the_look = ((Look, 1) ∷ (Admission 6 (white 3 ∷ []), 1) ∷ (Publication 5 (white 1 ∷ white 2 ∷ []), 0) ∷ [], refl)

@@ -1,0 +1,61 @@
+-- Records of what passes did, and the journal of what they published.
+use Rattle.std.specs.Prelude.{◌≡◌, ◌==◌, ℕ, List, [], ◌++◌, filter, map, length, sum_by, Option, Some, None}
+use Rattle.std.specs.List.{filter_map}
+use Rattle.cube_math.specs.Points.{PointValue}
+use Rattle.cube_math.specs.Batches.{BatchValue}
+use Rattle.batch_front.specs.declared.event.Act.{Act}
+use Rattle.batch_front.specs.declared.event.Act.TheVariants.{Admitted, Published, Looked}
+use Rattle.batch_front.specs.declared.event.Event.{Event}
+use Rattle.batch_front.specs.declared.event.Event.TheVariants.{Admission, Publication, Look}
+
+-- events in order, each with the number of the pass that it is of
+abbrev pub Record : Type 0
+Record = List (Event × ℕ)
+
+-- what a journal has of a published batch: the number of its input, the pass that published it, and its points
+pub record Entry : Type 0 where
+  pub input : ℕ
+  pub loader : ℕ
+  pub points : List PointValue
+
+-- the entry of a publication
+abbrev pub entry_of : Event × ℕ → Option Entry
+entry_of (Admission input points, loader) = None
+entry_of (Publication input points, loader) = Some record { input = input; loader = loader; points = points }
+entry_of (Look, loader) = None
+
+-- the entries of the publications, in order
+abbrev pub journal : Record → List Entry
+journal events = filter_map entry_of events
+
+-- the events of one pass, in order
+abbrev pub own : Record → ℕ → List Event
+own events number = map (λ e. e.0) (filter (λ e. e.1 == number) events)
+
+-- the points of an admission
+abbrev pub admitted_points : Event → List PointValue
+admitted_points (Admission input points) = points
+admitted_points (Publication input points) = []
+admitted_points Look = []
+
+-- how many points were admitted
+abbrev pub admitted : Record → ℕ
+admitted events = sum_by (λ e. length (admitted_points e.0)) events
+
+-- the second record goes on where the first ends
+abbrev pub IsPrefix : Record → Record → Type 0
+IsPrefix seen events = (rest : Record) × (seen ++ rest ≡ events)
+
+-- the event of an act with a batch, which a look has not
+abbrev pub event_of : Act → Option BatchValue → Event
+event_of Admitted (Some b) = Admission b.input b.points
+event_of Published (Some b) = Publication b.input b.points
+event_of Admitted None = Look
+event_of Published None = Look
+event_of Looked batch = Look
+
+-- how many publications an act is
+abbrev pub publications : Act → ℕ
+publications Admitted = 0
+publications Published = 1
+publications Looked = 0

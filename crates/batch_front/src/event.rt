@@ -1,0 +1,62 @@
+//! What is recorded, and what stands for a record.
+ghost use Rattle.std.specs.Prelude.{◌≡◌};
+ghost use Rattle.batch_front.specs.Records.{publications};
+
+use cube_math::Point;
+use std::collections::LinkedList;
+
+/// What a pass did in a turn.
+#[derive(Clone, Copy, Debug, PartialEq, Eq)]
+pub enum Act {
+    /// It admitted a batch.
+    Admitted,
+    /// It published a batch.
+    Published,
+    /// It looked.
+    Looked,
+}
+
+impl Act {
+    // How many publications an act is.
+    pub(crate) fn publications(self) -> u32
+        ensures { result ≡ publications self }
+    {
+        match self {
+            Act::Published => 1,
+            Act::Admitted | Act::Looked => 0,
+        }
+    }
+}
+
+/// What the record has of an act: of a batch, the number of its input and its points. No value of it is made.
+pub enum Event {
+    /// The admission of a batch.
+    Admission {
+        input: u32,
+        points: LinkedList<Point>,
+    },
+    /// The publication of a batch.
+    Publication {
+        input: u32,
+        points: LinkedList<Point>,
+    },
+    /// A look.
+    Look,
+}
+
+/// A value that stands for a record, and has a site that stays.
+pub trait Chronicle: Drop {
+    /// Plain data that stays the same in every turn. No value of it is made.
+    type Site;
+
+    ghost use Rattle.std.specs.Prelude.{◌≡◌, length};
+    ghost use Rattle.batch_front.specs.Records.{Record, journal};
+
+    ghost record: { Self → Record };
+
+    ghost site: { Self → Self.Site };
+
+    /// The number of publications in the record.
+    fn published(&self) -> u32
+        ensures { result ≡ length (journal («record» self.now)) };
+}

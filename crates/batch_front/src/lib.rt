@@ -1,0 +1,11 @@
+//! A value that passes take turns with, and one record of what was done in those turns.
+#![tactic(auto)]
+
+mod event;
+mod front;
+mod pass;
+mod rule;
+
+pub use event::{Act, Chronicle, Event};
+pub use front::Front;
+pub use pass::{News, Pass, Pen, Turn};

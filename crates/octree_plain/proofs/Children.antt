@@ -8,7 +8,7 @@ use Rattle.cube_math.specs.Cubes.{CubeValue, contains, child}
 use Rattle.octree_model.specs.Numbers.{up_to}
 use Rattle.octree_model.specs.Octree.{inside, octree, octree_at}
 use Rattle.octree_model.specs.Voxels.{VoxelValue, voxels}
-use Rattle.octree_model.specs.declared.tree.Tree.{Tree, Leaf, Inner}
+use Rattle.octree_model.specs.declared.tree.Tree.{Tree, Inner}
 use Rattle.octree_model.proofs.NumberLaws.{at_up_to}
 use Rattle.octree_model.proofs.OctreeLaws.{inner_by_count}
 

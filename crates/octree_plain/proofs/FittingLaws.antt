@@ -1,5 +1,5 @@
 -- Fitted cubes.
-use Rattle.std.proofs.Common.{zero, suc, Bool, ◌&&◌, nat_lt, Option, Some, None, Ok, Err, Result, ◌++◌, ◌≡◌, ◌≤◌, ◌<◌, ◌+◌, ◌-◌, ◌*◌, ◌%◌, ◌^◌, ℕ, ℤ, pos, ◌-ℤ◌, ◌+ℤ◌, ◌≤ℤ◌, ◌<ℤ◌, unsigned_abs, max, List, [], ◌∷◌, map, take, length, get_or, fold, IsTrue, true, false, cond, int_le, int_lt, ◌⊎◌, ap, ◌∙◌, sym, refl, arith, inl, inr, to_z, of_z, w32, w64}
+use Rattle.std.proofs.Common.{zero, suc, Bool, ◌&&◌, nat_lt, Option, Some, None, Ok, Err, ◌++◌, ◌≡◌, ◌≤◌, ◌<◌, ◌+◌, ◌-◌, ◌*◌, ◌%◌, ◌^◌, ℕ, ℤ, pos, ◌-ℤ◌, ◌+ℤ◌, ◌≤ℤ◌, ◌<ℤ◌, unsigned_abs, max, List, [], ◌∷◌, map, take, length, get_or, fold, IsTrue, true, false, cond, int_le, int_lt, ◌⊎◌, ap, ◌∙◌, sym, refl, arith, inl, inr, to_z, of_z, w32, w64}
 use Rattle.std.specs.Prelude.{find, unwrap_or}
 use Rattle.std.specs.List.{All}
 use Rattle.std.specs.Option.{option_map_or}

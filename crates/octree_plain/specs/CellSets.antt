@@ -1,5 +1,5 @@
 -- Sets of cells, kept as one bit a cell.
-use Rattle.std.specs.Prelude.{ℕ, ◌+◌, ◌*◌, ◌/◌, ◌%◌, Bool, ◌==◌, List, length, filter, slice_index}
+use Rattle.std.specs.Prelude.{ℕ, ◌*◌, ◌/◌, ◌%◌, Bool, ◌==◌, List, length, filter, slice_index}
 use Rattle.std.specs.Int.{bit_at}
 use Rattle.octree_model.specs.Numbers.{up_to}
 

@@ -1,5 +1,5 @@
 -- What is due carries over from one step to the next.
-use Rattle.std.proofs.Common.{◌≡◌, List, Option, Result, Ok, Err, ap, ◌∙◌, sym, refl}
+use Rattle.std.proofs.Common.{◌≡◌, Result, Ok, Err, ap, ◌∙◌, refl}
 use Rattle.run_report.specs.declared.fault.Fault.{Fault}
 use Rattle.run_report.specs.declared.fault.Fault.TheVariants as fault
 use Rattle.run_words.specs.Commands.{Text}

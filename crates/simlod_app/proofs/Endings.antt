@@ -1,5 +1,5 @@
 -- How a run ends.
-use Rattle.std.proofs.Common.{◌≡◌, ◌⊎◌, inl, inr, ℕ, List, Option, Result, Ok, Err, ap, ◌∙◌, sym, refl, subst}
+use Rattle.std.proofs.Common.{◌≡◌, inl, inr, ℕ, List, Option, Result, Ok, ap, ◌∙◌, sym, refl, subst}
 use Rattle.cloud_io.specs.Counts.{Rose}
 use Rattle.cloud_io.specs.Files.{Folder}
 use Rattle.cloud_io.specs.Whole.{AppendsPrefix}

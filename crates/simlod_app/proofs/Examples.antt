@@ -1,5 +1,5 @@
 -- The first refused batch, on small cases.
-use Rattle.std.proofs.Common.{◌≡◌, ℕ, List, [], ◌∷◌, Some, None, refl, pos}
+use Rattle.std.proofs.Common.{◌≡◌, ℕ, [], ◌∷◌, Some, None, refl, pos}
 use Rattle.cube_math.specs.Points.{PointValue}
 use Rattle.cube_math.specs.Cubes.{CubeValue}
 use Rattle.cube_math.specs.declared.refused.Cause.TheVariants.{Outside}

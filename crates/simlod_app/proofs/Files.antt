@@ -1,5 +1,5 @@
 -- One file that was read, or not.
-use Rattle.std.proofs.Common.{◌≡◌, ◌⊎◌, inl, inr, ℕ, ◌<◌, ◌≤◌, List, length, replicate, true, false, nat_lt, Some, None, Option, Result, Ok, Err, ap, ◌∙◌, sym, refl, subst, arith, Global, if◌then◌else◌, cond}
+use Rattle.std.proofs.Common.{◌≡◌, inl, inr, ℕ, ◌<◌, ◌≤◌, List, length, replicate, Some, None, Option, Ok, Err, ap, ◌∙◌, sym, refl, subst, Global, cond}
 use Rattle.std.specs.Prelude.{Vec, IfSome, IsSomeAnd}
 use Rattle.std.proofs.lemmas.Bool.{lt-ltb, le-ltb}
 use Rattle.std.proofs.lemmas.List.{length-replicate}

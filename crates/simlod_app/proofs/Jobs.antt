@@ -1,8 +1,7 @@
 -- The job of the words, and what is due of it.
 use Rattle.std.proofs.Common.{◌≡◌, ◌⊎◌, inl, inr, ℕ, List, [], Option, Result, Ok, Err, ap, ◌∙◌, sym, refl, subst, Global}
-use Rattle.std.specs.Prelude.{Vec, vec_items, Bool, true, false, not, cond, Some, None, position, if◌then◌else◌, ◌+◌}
+use Rattle.std.specs.Prelude.{Vec, vec_items, true, false, not, Some, None, position, ◌+◌}
 use Rattle.std.specs.List.{list_any}
-use Rattle.std.specs.Option.{option_map_or}
 use Rattle.cloud_io.specs.Files.{Folder}
 use Rattle.run_report.specs.declared.fault.Fault.{Fault}
 use Rattle.run_report.specs.declared.fault.Fault.TheVariants.{Command, Word, Options}

@@ -1,5 +1,5 @@
 -- The listing of clouds in a cube.
-use Rattle.std.proofs.Common.{◌≡◌, ◌⊎◌, ℕ, ◌+◌, ◌*◌, ◌/◌, ◌<◌, ◌≤◌, suc, get_or, arith, List, [], ◌∷◌, map, length, drop, Some, None, Option, Result, Ok, Err, ap, ◌∙◌, sym, refl, IsTrue, Global}
+use Rattle.std.proofs.Common.{◌≡◌, ℕ, ◌+◌, ◌*◌, ◌/◌, ◌<◌, ◌≤◌, suc, get_or, arith, List, ◌∷◌, map, length, drop, Some, None, Option, Ok, Err, ap, ◌∙◌, sym, refl, IsTrue, Global}
 use Rattle.std.specs.Prelude.{Vec, vec_items, option_map}
 use Rattle.std.specs.List.{All}
 use Rattle.std.specs.Int.{div_ceil}
@@ -16,7 +16,6 @@ use Rattle.octree_model.specs.Octree.{octree}
 use Rattle.octree_plain.specs.Fitting.{fitted_cube}
 use Rattle.octree_plain.specs.Listing.{nodes_text}
 use Rattle.octree_plain.specs.declared.fitting.Span.{Span}
-use Rattle.run_report.specs.declared.fault.Fault.{Fault}
 use Rattle.run_report.specs.declared.fault.Fault.TheVariants.{Axis, Batch}
 use Rattle.run_words.specs.Values.{JobValue}
 use Rattle.simlod_app.specs.Batches.{batches, first_outside_row}

@@ -1,7 +1,7 @@
 -- The first batch that a cube refuses, found cloud by cloud.
-use Rattle.std.proofs.Common.{◌≡◌, ℕ, zero, suc, ◌+◌, ◌*◌, ◌/◌, ◌%◌, ◌<◌, ◌≤◌, inl, inr, Bool, true, false, not, cond, List, [], ◌∷◌, ◌++◌, map, length, take, drop, Some, None, Option, ap, ◌∙◌, sym, refl, arith, IsTrue, append_assoc}
-use Rattle.std.specs.Prelude.{option_map, filter_map, slice_get, position, min}
-use Rattle.std.specs.List.{All, cons_option, enumerate_from, flat_map, position_from}
+use Rattle.std.proofs.Common.{◌≡◌, ℕ, zero, suc, ◌+◌, ◌*◌, ◌/◌, ◌%◌, ◌<◌, ◌≤◌, inl, inr, Bool, true, false, not, cond, List, [], ◌∷◌, ◌++◌, map, length, take, drop, Some, None, Option, ap, ◌∙◌, sym, refl, arith, IsTrue}
+use Rattle.std.specs.Prelude.{option_map, filter_map, slice_get, min}
+use Rattle.std.specs.List.{All, cons_option, enumerate_from, position_from}
 use Rattle.std.specs.Option.{option_or}
 use Rattle.std.specs.Int.{div_ceil}
 use Rattle.std.proofs.lemmas.Bool.{cases_lt}
@@ -20,7 +20,7 @@ use Rattle.cube_math.proofs.Firsts.{all_pass}
 use Rattle.octree_model.specs.Bags.{joined}
 use Rattle.octree_model.specs.Numbers.{up_to}
 use Rattle.octree_model.proofs.NumberLaws.{length-up_to}
-use Rattle.simlod_app.specs.Batches.{pieces, batches, outside_row, first_outside_row}
+use Rattle.simlod_app.specs.Batches.{pieces, batches, outside_row}
 
 -- the first refusal of batches that are counted from n on
 abbrev pub outside_from : ℕ → CubeValue → List (List PointValue) → Option RefusedRow

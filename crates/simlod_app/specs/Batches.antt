@@ -1,5 +1,5 @@
 -- The batches of a job, and the first that a cube refuses.
-use Rattle.std.specs.Prelude.{ℕ, ◌*◌, List, [], length, map, take, drop, Option, Some, None, option_map, filter_map, slice_get}
+use Rattle.std.specs.Prelude.{ℕ, ◌*◌, List, length, map, take, drop, Option, option_map, filter_map, slice_get}
 use Rattle.std.specs.Int.{div_ceil}
 use Rattle.std.specs.List.{flat_map, enumerate_from}
 use Rattle.cube_math.specs.Points.{PointValue}

@@ -1,12 +1,12 @@
 -- How a run ends: its status, what it wrote, and which counts of the outside account for it.
-use Rattle.std.specs.Prelude.{ℕ, ◌≡◌, ◌≤◌, ◌⊎◌, List, ◌∷◌, ◌++◌, map, All, Option, IfSome, Result, Ok, Err, IsOk}
+use Rattle.std.specs.Prelude.{ℕ, ◌≡◌, ◌⊎◌, List, ◌∷◌, ◌++◌, map, All, Option, IfSome, Result, Ok, Err, IsOk}
 use Rattle.std.specs.Io.KnownBytes.{Appends}
 use Rattle.cloud_io.specs.Counts.{Rose}
 use Rattle.cloud_io.specs.Files.{Folder}
 use Rattle.cloud_io.specs.Whole.{AppendsPrefix}
 use Rattle.run_report.specs.Faults.{fault_line}
 use Rattle.run_report.specs.declared.fault.Fault.{Fault}
-use Rattle.run_report.specs.declared.fault.Fault.TheVariants.{Output, NoFile, ReadFault, Memory}
+use Rattle.run_report.specs.declared.fault.Fault.TheVariants.{Output, ReadFault, Memory}
 use Rattle.run_words.specs.Commands.{Text}
 use Rattle.run_words.specs.Values.{JobValue}
 use Rattle.simlod_app.specs.Runs.{Source, job_here, clouds_of, answer}

@@ -26,7 +26,7 @@ pub fn listing<I: Inputs>(alloc: Global, inputs: &mut I, job: &Job) -> Result<Ve
     ensures axis { IfErr result HasAxis }
     ensures gives { (files : List Source) × AreSources (I.files inputs.old) job.now.files files
         × GivesOver (λ name. IsReached job.now.decimals files name × Rose (I.faults inputs.old) (I.faults inputs.new)) (Rose (I.missing inputs.old) (I.missing inputs.new))
-          vec_items result (job_answer job.now files) }
+        vec_items result (job_answer job.now files) }
 {
     let clouds = read_clouds(alloc, inputs, job.files.as_slice(), job.decimals)?;
     clouds_listing(alloc, clouds, job)
@@ -104,12 +104,7 @@ fn listing_in_fitted(alloc: Global, clouds: Vec<Vec<Point>>, job: &Job) -> Resul
 }
 
 /// The text of the octree of points in a cube.
-fn text_in(
-    alloc: Global,
-    points: Vec<Point>,
-    cube: Cube,
-    job: &Job,
-) -> Result<Vec<u8>, AllocError>
+fn text_in(alloc: Global, points: Vec<Point>, cube: Cube, job: &Job) -> Result<Vec<u8>, AllocError>
     requires few { length points.items < 2 ^ 32 }
     requires contained { All (λ p. IsTrue (contains cube p)) points.items }
     requires ranges { HasRanges job.now }

@@ -45,7 +45,7 @@ fn output_of<I: Inputs>(alloc: Global, words: &[String], inputs: &mut I) -> Resu
     ensures axis { IfErr result HasAxis }
     ensures gives { (files : List Source) × AreFilesOf (I.files inputs.old) (map string_bytes words.now) files
         × GivesOver (λ name. IsNextOf (map string_bytes words.now) files name × Rose (I.faults inputs.old) (I.faults inputs.new)) (Rose (I.missing inputs.old) (I.missing inputs.new))
-          vec_items result (answer (map string_bytes words.now) files) }
+        vec_items result (answer (map string_bytes words.now) files) }
 {
     let job = read_job(alloc, words)?;
     listing(alloc, inputs, &job)

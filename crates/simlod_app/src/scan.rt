@@ -28,7 +28,7 @@ pub fn read_clouds<I: Inputs>(
     ensures axis { IfErr result HasAxis }
     ensures gives { (files : List Source) × AreSources (I.files inputs.old) (map string_bytes names.now) files
         × GivesOver (λ name. IsReached decimals files name × Rose (I.faults inputs.old) (I.faults inputs.new)) (Rose (I.missing inputs.old) (I.missing inputs.new))
-          (λ clouds. map vec_items clouds.items) result (clouds_of decimals files) }
+        (λ clouds. map vec_items clouds.items) result (clouds_of decimals files) }
 {
     let mut clouds = Vec::new(alloc);
     for name in names {
@@ -53,7 +53,7 @@ fn read_cloud<I: Inputs>(
     ensures axis { IfErr result HasAxis }
     ensures gives { (content : Option (List ℕ)) × IsSource (I.files inputs.old) name.now content
         × GivesOver (λ failed. (failed ≡ name.now) × Rose (I.faults inputs.old) (I.faults inputs.new)) (Rose (I.missing inputs.old) (I.missing inputs.new))
-          vec_items result (cloud_in decimals name.now content) }
+        vec_items result (cloud_in decimals name.now content) }
 {
     let bytes = match read_all(alloc, inputs, name, MOST_BYTES) {
         Ok(bytes) => bytes,

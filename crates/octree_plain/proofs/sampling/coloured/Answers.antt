@@ -1,8 +1,7 @@
-use Rattle.std.proofs.Common.{◌≡◌, ◌+◌, ◌++◌, ◌<◌, ◌≤◌, List, [], ◌∷◌, length, take, map, get_or, arith, ap, sym, refl, ◌∙◌, ◌%◌, ◌^◌}
-use Rattle.std.proofs.lemmas.List.{take_more, take_all, map-append}
+use Rattle.std.proofs.Common.{◌≡◌, map, get_or, arith, ap, sym, ◌∙◌}
+use Rattle.std.proofs.lemmas.List.{take_all}
 use Rattle.cube_math.specs.Points.{PointValue}
-use Rattle.octree_model.specs.Voxels.{VoxelValue, cell_colour, voxels}
-use Rattle.octree_plain.specs.Sampling.{IsNearestOf}
+use Rattle.octree_model.specs.Voxels.{cell_colour, voxels}
 use Rattle.octree_plain.proofs.Nearest.{nearest_at, nearest_colour, one_voxel}
 use Rattle.octree_plain.proofs.sampling.coloured.Goals as goal
 

@@ -1,8 +1,8 @@
-use Rattle.std.proofs.Common.{◌≡◌, ◌+◌, ◌++◌, ◌<◌, ◌≤◌, List, [], ◌∷◌, IsTrue, length, take, map, get_or, set, arith, ap, sym, subst, refl, ◌∙◌, true, false, not, ℕ}
+use Rattle.std.proofs.Common.{◌≡◌, ◌+◌, ◌++◌, ◌<◌, List, [], ◌∷◌, IsTrue, length, take, map, get_or, arith, ap, sym, subst, ◌∙◌, true, false, not, ℕ}
 use Rattle.std.proofs.lemmas.Bool.{ltb-true, ltb-false}
 use Rattle.std.proofs.lemmas.List.{length-take, get_or-take, take_more}
 use Rattle.cube_math.specs.Points.{PointValue}
-use Rattle.cube_math.specs.Cubes.{contains, cell, key}
+use Rattle.cube_math.specs.Cubes.{contains, cell}
 use Rattle.octree_model.specs.Numbers.{has}
 use Rattle.octree_plain.specs.Sampling.{HasNearest, IsNearestOf}
 use Rattle.octree_plain.proofs.Nearest.{known_cell, new_cell, found_more, point_in_new_cell, nearer_point, farther_point}

@@ -1,4 +1,4 @@
-use Rattle.std.proofs.Common.{rules, ◌≡◌, ◌+◌, ◌≤◌, ◌∷◌, drop, map, length, ap, sym, ◌∙◌, arith, vec_items, None, Some}
+use Rattle.std.proofs.Common.{rules, ◌≡◌, ◌+◌, ◌∷◌, drop, map, length, ap, sym, ◌∙◌, arith, vec_items, None, Some}
 use Rattle.std.specs.Int.{div_ceil}
 use Rattle.std.proofs.lemmas.List.{drop_all, length-append}
 use Rattle.cube_math.specs.Refusals.{first_outside}

@@ -1,4 +1,4 @@
-use Rattle.std.proofs.Common.{◌≡◌, ◌+◌, ◌*◌, ◌/◌, ◌%◌, ◌<◌, length, get_or, arith, ap, ◌∙◌, sym, not}
+use Rattle.std.proofs.Common.{◌*◌, ◌/◌, ◌%◌, ◌<◌, length, arith, ap, ◌∙◌, sym, not}
 use Rattle.std.proofs.lemmas.Grind.{get_or_default_zero}
 use Rattle.octree_model.specs.Numbers.{has, with_number}
 use Rattle.octree_plain.proofs.Words.{bit_test, has-marked_cells, one_mark, is_set, with_bit}

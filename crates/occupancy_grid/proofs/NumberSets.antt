@@ -5,7 +5,7 @@ use Rattle.std.proofs.lemmas.Bool.{lt-ltb, eq-eqb, ltb-true, and_parts}
 use Rattle.std.proofs.lemmas.List.{append-nil, map-append}
 use Rattle.octree_model.specs.Numbers.{up_to, has, with_number, ascending}
 use Rattle.octree_model.proofs.AscendingLaws.{has-ascending}
-use Rattle.octree_plain.proofs.Marks.{filter_same, filter_none, filter_with, has-filter}
+use Rattle.octree_model.proofs.FilterLaws.{filter_same, filter_none, filter_with, has-filter}
 
 or_assoc : (a b c : Bool) → (a || (b || c)) ≡ ((a || b) || c)
 or_assoc true b c = refl

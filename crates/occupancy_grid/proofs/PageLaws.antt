@@ -10,7 +10,7 @@ use Rattle.std.proofs.lemmas.Nat.Bits.{bit_at_set_same, bit_at_set_other, bit_at
 use Rattle.octree_model.specs.Numbers.{up_to, has, with_number, ascending}
 use Rattle.octree_model.proofs.AscendingLaws.{with_number_before, with_number_behind}
 use Rattle.octree_model.proofs.NumberLaws.{length-up_to}
-use Rattle.octree_plain.proofs.Marks.{filter_same, filter_none, filter_with, has-filter}
+use Rattle.octree_model.proofs.FilterLaws.{filter_same, filter_none, filter_with, has-filter}
 use Rattle.octree_plain.specs.CellSets.{is_marked as is_set_in, marked_cells as cells_in, set_bits}
 use Rattle.octree_plain.proofs.Words.{is_set, with_bit, cells_of_first, next_word}
 use Rattle.occupancy_grid.proofs.NumberSets.{ascending_passing, has_left, has_first, has-append, up_to-add, filter-map}

@@ -1,0 +1,10 @@
+pub mod ChunkLaws
+pub mod FreshLaws
+pub mod GivenLaws
+pub mod Grants
+pub mod Places
+pub mod PlainLaws
+pub mod ReclaimLaws
+pub mod RowLaws
+pub mod SeatLaws
+pub mod StoreLaws

@@ -1,0 +1,28 @@
+-- Elements of lists by their places.
+use Rattle.std.proofs.Common.{◌≡◌, ◌≢◌, ℕ, zero, suc, ◌<◌, ◌⊎◌, inl, inr, List, [], ◌∷◌, ◌++◌, length, set, get_or, Some, ap, refl, arith}
+use Rattle.std.specs.List.{slice_get}
+
+pub slice_get-set_same : {X : Type 0} (xs : List X) (i : ℕ) (v : X) → i < length xs → slice_get (set xs i v) i ≡ Some v
+slice_get-set_same [] i v h = absurd (omega arith)
+slice_get-set_same (x ∷ xs) zero v h = refl
+slice_get-set_same (x ∷ xs) (suc i) v h = slice_get-set_same xs i v (omega arith)
+
+pub slice_get-set_other : {X : Type 0} (xs : List X) (i j : ℕ) (v : X) → j ≢ i → slice_get (set xs i v) j ≡ slice_get xs j
+slice_get-set_other [] i j v ne = refl
+slice_get-set_other (x ∷ xs) zero zero v ne = absurd (ne refl)
+slice_get-set_other (x ∷ xs) zero (suc j) v ne = refl
+slice_get-set_other (x ∷ xs) (suc i) zero v ne = refl
+slice_get-set_other (x ∷ xs) (suc i) (suc j) v ne = slice_get-set_other xs i j v (λ e. ne (ap suc e))
+
+-- an element of a list with one more at its end
+pub slice_get-push : {X : Type 0} (xs : List X) (y z : X) (i : ℕ) → slice_get (xs ++ y ∷ []) i ≡ Some z → (slice_get xs i ≡ Some z) ⊎ ((i ≡ length xs) × (y ≡ z))
+slice_get-push [] y z zero e = let same : y ≡ z = cc in inr (refl, same)
+slice_get-push [] y z (suc i) e = absurd (cc)
+slice_get-push (x ∷ xs) y z zero e = inl e
+slice_get-push (x ∷ xs) y z (suc i) e = elim (slice_get-push xs y z i e) [ inl before ↦ inl before | inr last ↦ inr (ap suc last.0, last.1) ]
+
+-- the list after one more at its end, where the place lies before
+pub get_or-push : (xs : List ℕ) (y i d : ℕ) → i < length xs → get_or (xs ++ y ∷ []) i d ≡ get_or xs i d
+get_or-push [] y i d h = absurd (omega arith)
+get_or-push (x ∷ xs) y zero d h = refl
+get_or-push (x ∷ xs) y (suc i) d h = get_or-push xs y i d (omega arith)

@@ -1,0 +1,67 @@
+use Rattle.std.proofs.Common.{◌≡◌, ◌+◌, ◌<◌, true, false, length, set, [], ◌∷◌, ap, sym, subst, ◌∙◌, arith}
+use Rattle.std.specs.List.{Contains}
+use Rattle.std.specs.FinSet as set_of
+use Rattle.std.proofs.lemmas.List.{length-append}
+use Rattle.chunk_pool.specs.Numbers.{Numbers, IsFree, without}
+use Rattle.list_words.specs.Store.{Row, IsInNoChain, Keeps, linked, is_shut, row, with_chunk}
+use Rattle.list_words.specs.PlainRows.{PlainList, items_of, linked_list, row_of}
+use Rattle.list_words.specs.Plain.{Plain, Knows, all_chunks, chain, chunk_count, list_in, store_of, with_list}
+use Rattle.list_words.specs.PlainKept.{AreHomed, AreSummed, home_of, plain_of}
+use Rattle.list_words.specs.declared.leaf_lists.Phase.TheVariants.{Open}
+use Rattle.list_words.proofs.ChunkLaws.{homed-more, len-without, summed-more}
+use Rattle.list_words.proofs.PlainLaws.{ordered-set}
+use Rattle.list_words.proofs.StoreLaws.{known_changed, list_is, nowhere, open_low, open_phase, store_chunk}
+use Rattle.list_words.proofs.plain_lists.PlainListsLeafLists.extend_claimed.Goals as goal
+
+pub invariant_of-self : goal.invariant_of-self
+invariant_of-self c =
+    let low : c.args.list < length c.self.inside.rows.items = open_low (plain_of c.self.inside) c.args.self.now c.args.list c.self.view_is c.requires.takes in
+    let L : PlainList = list_in c.self.inside.rows.items c.args.list in
+    let is : c.index_mut-row.result.now ≡ L = list_is c.self.inside.rows.items c.args.list c.index_mut-row.result.now low c.index_mut-row.ensures.value in
+    let open_now : L.phase ≡ Open = open_phase (plain_of c.self.inside) c.args.self.now c.args.list c.self.view_is c.requires.takes in
+    let e : c.link.new.self ≡ linked_list L c.in-Some.chunk = c.link.ensures ∙ ap (λ (q : PlainList). linked_list q c.in-Some.chunk) is in
+    let free : IsFree c.self.inside.pool c.in-Some.chunk = c.in-Some.ensures.least.free in
+    let small : c.in-Some.chunk < length c.self.inside.homes.items = omega (arith, c.in-Some.ensures.below, c.self.invariant.homed.size) in
+    let rank : length c.claimed.result.now ≡ length L.claimed = ap length (c.claimed.ensures ∙ ap (λ (q : PlainList). q.claimed) is) in
+    let open_still : is_shut c.link.new.self.phase ≡ false = ap (λ (q : PlainList). is_shut q.phase) e ∙ ap is_shut open_now in
+    let count : chunk_count c.link.new.self ≡ chunk_count L + 1 = ap chunk_count e ∙ omega (arith, length-append L.claimed (c.in-Some.chunk ∷ [])) in
+    record {
+      homed = subst (λ (p : Numbers). AreHomed (set c.self.inside.rows.items c.args.list c.link.new.self) (set c.self.inside.homes.items c.in-Some.chunk (home_of c.args.list false (length c.claimed.result.now))) p) (sym c.in-Some.ensures.after)
+          (subst (λ n. AreHomed (set c.self.inside.rows.items c.args.list c.link.new.self) (set c.self.inside.homes.items c.in-Some.chunk (home_of c.args.list false n)) (without c.self.inside.pool c.in-Some.chunk)) (sym rank)
+          (homed-more c.self.inside.rows.items c.self.inside.homes.items c.self.inside.pool c.args.list c.in-Some.chunk c.link.new.self false c.self.invariant.homed low free small (ap (chain false) e) (ap (chain true) e)));
+      summed = subst (λ (p : Numbers). AreSummed (set c.self.inside.rows.items c.args.list c.link.new.self) p c.self.inside.held (length c.self.inside.order.items)) (sym c.in-Some.ensures.after)
+          (summed-more c.self.inside.rows.items c.self.inside.pool c.self.inside.held (length c.self.inside.order.items) c.args.list c.in-Some.chunk c.link.new.self c.self.invariant.summed low free count open_still (ap is_shut open_now));
+      ordered = ordered-set c.self.inside.rows.items c.self.inside.order.items c.self.inside.cleared c.self.inside.out.items c.self.inside.seats c.args.list c.link.new.self c.self.invariant.ordered low (λ shut_now. ap (λ (q : PlainList). q.phase) e ∙ shut_now);
+      order_room = c.self.invariant.order_room;
+      out_room = c.self.invariant.out_room;
+      grants_room = c.self.invariant.grants_room;
+      items_room = c.self.invariant.items_room;
+      no_grants = c.self.invariant.no_grants;
+      no_answers = c.self.invariant.no_answers;
+      few_lists = c.self.invariant.few_lists;
+      few_chunks = let same : c.take.new.self.size ≡ c.self.inside.pool.size = ap (λ (p : Numbers). p.size) c.in-Some.ensures.after in omega (arith, c.self.invariant.few_chunks);
+      few_given = c.self.invariant.few_given;
+    }
+
+pub returns-clause-store : goal.returns-clause-store
+returns-clause-store c =
+    let low : c.args.list < length c.self.inside.rows.items = open_low (plain_of c.self.inside) c.args.self.now c.args.list c.self.view_is c.requires.takes in
+    let is : c.index_mut-row.result.now ≡ list_in c.self.inside.rows.items c.args.list = list_is c.self.inside.rows.items c.args.list c.index_mut-row.result.now low c.index_mut-row.ensures.value in
+    let free : IsFree c.self.inside.pool c.in-Some.chunk = c.in-Some.ensures.least.free in (
+      c.in-Some.chunk,
+      subst (λ (p : Plain). c.in-Some.chunk < p.chunks) c.self.view_is c.in-Some.ensures.below,
+      subst (λ p. IsInNoChain (store_of p) c.in-Some.chunk) c.self.view_is (nowhere (plain_of c.self.inside) c.self.inside.homes.items c.self.inside.pool c.in-Some.chunk c.self.invariant.homed free),
+      ap (λ (q : Numbers). store_of (record (plain_of c.self.inside) { lists = set c.self.inside.rows.items c.args.list c.link.new.self; chunks = q.size; free = set_of.len q.free })) c.in-Some.ensures.after
+          ∙ store_chunk (plain_of c.self.inside) c.args.list c.index_mut-row.result.now c.link.new.self (λ (r : Row). linked r c.in-Some.chunk) (set_of.len (without c.self.inside.pool c.in-Some.chunk).free) is (ap row_of c.link.ensures) (len-without c.self.inside.pool c.in-Some.chunk free)
+          ∙ ap (λ p. with_chunk (store_of p) c.args.list (linked (row (store_of p) c.args.list) c.in-Some.chunk)) c.self.view_is,
+    )
+
+pub returns-clause-known : goal.returns-clause-known
+returns-clause-known c =
+    let low : c.args.list < length c.self.inside.rows.items = open_low (plain_of c.self.inside) c.args.self.now c.args.list c.self.view_is c.requires.takes in
+    let is : c.index_mut-row.result.now ≡ list_in c.self.inside.rows.items c.args.list = list_is c.self.inside.rows.items c.args.list c.index_mut-row.result.now low c.index_mut-row.ensures.value in
+    let Q : PlainList = c.index_mut-row.result.now in
+    subst (λ p. Keeps (Knows p) (Knows (with_list (plain_of c.self.inside) c.args.list c.link.new.self))) c.self.view_is
+    (known_changed (plain_of c.self.inside) c.args.list Q c.link.new.self low is
+    (λ x some inside. subst (λ (q : PlainList). Contains (items_of q) x) (sym c.link.ensures) inside)
+    (λ some. subst (λ (q : PlainList). 0 < length (all_chunks q)) (sym c.link.ensures) (omega (arith, some, length-append Q.claimed Q.owned, length-append (linked_list Q c.in-Some.chunk).claimed (linked_list Q c.in-Some.chunk).owned, length-append Q.claimed (c.in-Some.chunk ∷ [])))))

@@ -1,0 +1,36 @@
+use Rattle.std.proofs.Common.{◌≡◌, ℕ, ◌<◌, length, ◌∙◌, arith}
+use Rattle.std.specs.List.{Contains}
+use Rattle.std.proofs.lemmas.Grind.{get_or_default_zero}
+use Rattle.list_words.specs.Store.{chunks_of, row}
+use Rattle.list_words.specs.Plain.{store_of}
+use Rattle.list_words.proofs.SeatLaws.{counted_here}
+use Rattle.list_words.proofs.StoreLaws.{first_chunk, shut-le}
+use Rattle.list_words.proofs.plain_lists.PlainListsLeafLists.note.Goals as goal
+
+pub overflow_cast-result : goal.overflow_cast-result
+overflow_cast-result c = omega (arith, c.len-now.ensures, c.self.inside.order.ok.0, c.self.inside.rows.ok.0, c.self.invariant.summed.shuts, shut-le c.self.inside.rows.items, c.self.invariant.few_lists)
+
+pub invariant_of-self : goal.invariant_of-self
+invariant_of-self c =
+    let place : c.len-now.result ≡ length c.self.inside.order.items = c.len-now.ensures ∙ c.self.inside.order.ok.0 in
+    let low : c.len-now.result < length c.self.inside.out.items = omega (arith, c.self.invariant.ordered.births) in
+    record {
+      homed = c.self.invariant.homed;
+      summed = c.self.invariant.summed;
+      ordered = counted_here c.self.inside.rows.items c.self.inside.order.items c.self.inside.cleared c.self.inside.out.items c.self.inside.seats c.len-now.result c.index_mut.result.now c.self.invariant.ordered place
+          (c.index_mut.ensures.value ∙ get_or_default_zero c.self.inside.out.items c.len-now.result c.index_mut.result.now low);
+      order_room = c.self.invariant.order_room;
+      out_room = c.self.invariant.out_room;
+      grants_room = c.self.invariant.grants_room;
+      items_room = c.self.invariant.items_room;
+      no_grants = c.self.invariant.no_grants;
+      no_answers = c.self.invariant.no_answers;
+      few_lists = c.self.invariant.few_lists;
+      few_chunks = c.self.invariant.few_chunks;
+      few_given = c.self.invariant.few_given;
+    }
+
+pub returns-clause-sees : goal.returns-clause-sees
+returns-clause-sees c = λ l x open_now known.
+    let chunk : (k : ℕ) × Contains (chunks_of (row (store_of c.args.self.now) l)) k = first_chunk c.args.self.now l known.1 in
+    (chunk.0, chunk.1, tt)

@@ -1,0 +1,62 @@
+use Rattle.std.proofs.Common.{◌≡◌, ◌*◌, ◌<◌, length, ap, refl, sym, subst, ◌∙◌, arith}
+use Rattle.std.proofs.lemmas.List.{length-append}
+use Rattle.std.specs.List.{Contains}
+use Rattle.list_words.specs.Store.{Row, Keeps, placed_in, row, with_row}
+use Rattle.list_words.specs.PlainRows.{PlainList, items_of, placed_list, row_of}
+use Rattle.list_words.specs.Plain.{Plain, Knows, all_chunks, list_in, store_of, with_list}
+use Rattle.list_words.specs.PlainKept.{plain_of}
+use Rattle.list_words.proofs.PlainLaws.{row-map}
+use Rattle.list_words.proofs.StoreLaws.{SameShape, homed-same, known_changed, known_here, list_is, more_placed, open_low, ordered-same, placed_there, same_shape, store_changed, summed-same}
+use Rattle.list_words.proofs.plain_lists.PlainListsLeafLists.place.Goals as goal
+
+pub invariant_of-self : goal.invariant_of-self
+invariant_of-self c =
+    let low : c.args.list < length c.self.inside.rows.items = open_low (plain_of c.self.inside) c.args.self.now c.args.list c.self.view_is c.requires.takes in
+    let is : c.index_mut-row.result.now ≡ list_in c.self.inside.rows.items c.args.list = list_is c.self.inside.rows.items c.args.list c.index_mut-row.result.now low c.index_mut-row.ensures.value in
+    let same : SameShape c.place.new.self (list_in c.self.inside.rows.items c.args.list) =
+    same_shape c.place.new.self (list_in c.self.inside.rows.items c.args.list) (placed_list (list_in c.self.inside.rows.items c.args.list) c.args.item)
+    (c.place.ensures.placed ∙ ap (λ (q : PlainList). placed_list q c.args.item) is) (λ owned. refl) refl in
+    record {
+      homed = homed-same c.self.inside.rows.items c.self.inside.homes.items c.self.inside.pool c.args.list c.place.new.self c.self.invariant.homed low same;
+      summed = summed-same c.self.inside.rows.items c.self.inside.pool c.self.inside.held (length c.self.inside.order.items) c.args.list c.place.new.self c.self.invariant.summed low same;
+      ordered = ordered-same c.self.inside.rows.items c.self.inside.order.items c.self.inside.cleared c.self.inside.out.items c.self.inside.seats c.args.list c.place.new.self c.self.invariant.ordered low same;
+      order_room = c.self.invariant.order_room;
+      out_room = c.self.invariant.out_room;
+      grants_room = c.self.invariant.grants_room;
+      items_room = c.self.invariant.items_room;
+      no_grants = c.self.invariant.no_grants;
+      no_answers = c.self.invariant.no_answers;
+      few_lists = c.self.invariant.few_lists;
+      few_chunks = c.self.invariant.few_chunks;
+      few_given = c.self.invariant.few_given;
+    }
+
+pub returns-clause-store : goal.returns-clause-store
+returns-clause-store c =
+    let low : c.args.list < length c.self.inside.rows.items = open_low (plain_of c.self.inside) c.args.self.now c.args.list c.self.view_is c.requires.takes in
+    let is : c.index_mut-row.result.now ≡ list_in c.self.inside.rows.items c.args.list = list_is c.self.inside.rows.items c.args.list c.index_mut-row.result.now low c.index_mut-row.ensures.value in
+    store_changed (plain_of c.self.inside) c.args.list c.index_mut-row.result.now c.place.new.self (λ (r : Row). placed_in r c.args.item) is (ap row_of c.place.ensures.placed)
+    ∙ ap (λ p. with_row (store_of p) c.args.list (placed_in (row (store_of p) c.args.list) c.args.item)) c.self.view_is
+
+pub returns-clause-placed : goal.returns-clause-placed
+returns-clause-placed c =
+    let low : c.args.list < length c.self.inside.rows.items = open_low (plain_of c.self.inside) c.args.self.now c.args.list c.self.view_is c.requires.takes in
+    let is : c.index_mut-row.result.now ≡ list_in c.self.inside.rows.items c.args.list = list_is c.self.inside.rows.items c.args.list c.index_mut-row.result.now low c.index_mut-row.ensures.value in
+    let there : c.index_mut-row.result.now ≡ list_in c.args.self.now.lists c.args.list = is ∙ ap (λ (p : Plain). list_in p.lists c.args.list) c.self.view_is in
+    let room : length (list_in c.args.self.now.lists c.args.list).placed < 256 * length (list_in c.args.self.now.lists c.args.list).owned =
+    subst (λ (r : Row). length r.placed < 256 * length r.owned) (row-map c.args.self.now.lists c.args.list) c.requires.room in
+    let here : length c.index_mut-row.result.now.placed < 256 * length c.index_mut-row.result.now.owned =
+    subst (λ (q : PlainList). length q.placed < 256 * length q.owned) (sym there) room in
+    let some : 0 < length (all_chunks (placed_list c.index_mut-row.result.now c.args.item)) = omega (arith, here, length-append c.index_mut-row.result.now.claimed c.index_mut-row.result.now.owned) in
+    known_here (plain_of c.self.inside) c.args.list c.args.item c.place.new.self low
+    (subst (λ (q : PlainList). Contains (items_of q) c.args.item) (sym c.place.ensures.placed) (placed_there c.index_mut-row.result.now c.args.item))
+    (subst (λ (q : PlainList). 0 < length (all_chunks q)) (sym c.place.ensures.placed) some)
+
+pub returns-clause-known : goal.returns-clause-known
+returns-clause-known c =
+    let low : c.args.list < length c.self.inside.rows.items = open_low (plain_of c.self.inside) c.args.self.now c.args.list c.self.view_is c.requires.takes in
+    let is : c.index_mut-row.result.now ≡ list_in c.self.inside.rows.items c.args.list = list_is c.self.inside.rows.items c.args.list c.index_mut-row.result.now low c.index_mut-row.ensures.value in
+    subst (λ p. Keeps (Knows p) (Knows (with_list (plain_of c.self.inside) c.args.list c.place.new.self))) c.self.view_is
+    (known_changed (plain_of c.self.inside) c.args.list c.index_mut-row.result.now c.place.new.self low is
+    (λ x some inside. subst (λ (q : PlainList). Contains (items_of q) x) (sym c.place.ensures.placed) (more_placed c.index_mut-row.result.now c.args.item x inside))
+    (λ some. subst (λ (q : PlainList). 0 < length (all_chunks q)) (sym c.place.ensures.placed) some))

@@ -1,0 +1,102 @@
+-- Lists over vectors, as plain data.
+use Rattle.std.specs.Prelude.{◌≡◌, ℕ, suc, ◌+◌, ◌*◌, ◌<◌, Bool, if◌then◌else◌, List, [], ◌∷◌, ◌++◌, length, map, slice_get, slice_set, slice_index, slice_index_or, Option, Some, None, Contains, All, replicate}
+use Rattle.list_machine.specs.Words.{Word, blank, holding, raised}
+use Rattle.list_words.specs.Store.{Store, is_shut}
+use Rattle.list_words.specs.Filing.{Filing}
+use Rattle.list_words.specs.PlainRows.{PlainList, no_list, row_of, items_of, emptied_list}
+use Rattle.list_words.specs.declared.leaf_lists.Answer.{Answer}
+use Rattle.list_words.specs.declared.leaf_lists.Filed.{Filed}
+use Rattle.list_words.specs.declared.leaf_lists.Filed.TheVariants.{At, Late}
+use Rattle.list_words.specs.declared.leaf_lists.Phase.TheVariants.{Shut}
+
+-- the lists, how many chunks there are and how many are free, the shut lists in order and how many of them are
+-- cleared, who is out by birth, room for the next filer, and how many slots were granted in all
+pub record Plain : Type 0 where
+  pub lists : List PlainList
+  pub chunks : ℕ
+  pub free : ℕ
+  pub order : List ℕ
+  pub cleared : ℕ
+  pub out : List ℕ
+  pub grants_room : ℕ
+  pub items_room : ℕ
+  pub given : ℕ
+
+abbrev pub list_in : List PlainList → ℕ → PlainList
+list_in lists l = slice_index_or lists l no_list
+
+-- the same as each kind of lists shows it; every such lists have one name
+abbrev pub store_of : Plain → Store
+store_of p = record { name = []; chunks = p.chunks; rows = map row_of p.lists; free = p.free; order = p.order; cleared = p.cleared; out = p.out; grants_room = p.grants_room; items_room = p.items_room; given = p.given }
+
+-- lists that were never opened, and free chunks
+abbrev pub fresh_plain : ℕ → ℕ → Plain
+fresh_plain lists chunks = record { lists = replicate lists no_list; chunks = chunks; free = chunks; order = []; cleared = 0; out = 0 ∷ []; grants_room = 0; items_room = 0; given = 0 }
+
+-- the chunks of both chains
+abbrev pub all_chunks : PlainList → List ℕ
+all_chunks p = p.claimed ++ p.owned
+
+-- the item stands in a slot of the list, as it was filed or placed there
+abbrev pub Knows : Plain → ℕ → ℕ → Type 0
+Knows p l x = Contains (items_of (list_in p.lists l)) x × (0 < length (all_chunks (list_in p.lists l)))
+
+abbrev pub with_list : Plain → ℕ → PlainList → Plain
+with_list p l b = record p { lists = slice_set p.lists l b }
+
+-- ---- slots
+
+-- one of the two chains of a list, and the items in its slots in order
+abbrev pub chain : Bool → PlainList → List ℕ
+chain owned p = if owned then p.owned else p.claimed
+
+abbrev pub chain_items : Bool → PlainList → List ℕ
+chain_items owned p = if owned then p.placed else p.filed
+
+abbrev pub chunk_at : List PlainList → Bool → ℕ → ℕ → Option ℕ
+chunk_at lists owned l r = slice_get (chain owned (list_in lists l)) r
+
+-- the word that the steps left in a slot with this item, or without one
+abbrev pub word_with : Bool → Option ℕ → Word
+word_with shut None = blank
+word_with shut (Some item) = if shut then raised (holding item) else holding item
+
+-- the word of a slot of a chunk of a chain, by the chunk's place in it
+abbrev pub slot_word : PlainList → Bool → ℕ → ℕ → Word
+slot_word p owned r i = word_with (is_shut p.phase) (slice_get (chain_items owned p) (256 * r + i))
+
+-- ---- answers that are borne out
+
+-- the item stands in the slot of the chunk, which is one of the claimed chain
+pub record StandsAt (p : PlainList) (item c i : ℕ) : Type 0 where
+  pub rank : ℕ
+  pub chunk : slice_get p.claimed rank ≡ Some c
+  pub within : i < 256
+  pub stands : slice_get p.filed (256 * rank + i) ≡ Some item
+
+abbrev pub Bears : PlainList → ℕ → Filed → Type 0
+Bears p item (At c i) = StandsAt p item c i
+Bears p item (Late seen) = p.phase ≡ Shut
+
+-- somebody with the filer's birth is out, and each answer is borne out
+pub record BearsOut (p : Plain) (f : Filing) : Type 0 where
+  pub counted : 0 < slice_index p.out f.birth
+  pub answers : All (λ (a : Answer). Bears (list_in p.lists a.list) a.item a.filed) f.answers
+
+-- ---- sums over lists
+
+abbrev pub chunk_count : PlainList → ℕ
+chunk_count p = length p.claimed + length p.owned
+
+abbrev pub held_chunks : PlainList → ℕ
+held_chunks p = if is_shut p.phase then chunk_count p else 0
+
+abbrev pub shut_count : PlainList → ℕ
+shut_count p = if is_shut p.phase then 1 else 0
+
+-- the first list that is not cleared is cleared
+abbrev pub next_list : Plain → ℕ
+next_list p = slice_index p.order p.cleared
+
+abbrev pub next_cleared : Plain → Plain
+next_cleared p = record p { lists = slice_set p.lists (next_list p) (emptied_list (list_in p.lists (next_list p))); free = p.free + chunk_count (list_in p.lists (next_list p)); cleared = suc p.cleared }

@@ -1,0 +1,195 @@
+-- The lists of leaves as plain data.
+use Rattle.std.specs.Prelude.{◌≡◌, ℕ, ◌+◌, ◌-◌, ◌*◌, ◌<◌, ◌≤◌, Bool, true, false, if◌then◌else◌, max, List, [], ◌∷◌, ◌++◌, length, take, drop, sum, sum_by, slice_set, slice_index, slice_index_or, Option, Contains, AllPairs, ◌≢◌, All}
+use Rattle.std.specs.List.{filter_map}
+use Rattle.list_machine.specs.declared.views.Grant.{Grant}
+use Rattle.list_words.specs.Filing.{granted_in_all}
+use Rattle.list_words.specs.declared.leaf_lists.Phase.{Phase}
+use Rattle.list_words.specs.declared.leaf_lists.Phase.TheVariants.{Fresh, Open, Shut}
+
+-- One list: its phase, the chunks of its two chains, how many claimed slots were granted, the items placed in
+-- the owned chain in order, what the sweep found in each claimed slot in order, and for how many more chunks
+-- of each chain there is room. The sweep's list is empty before it; a cleared list has no chunks, no items and no room.
+pub record Row : Type 0 where
+  pub phase : Phase
+  pub claimed : List ℕ
+  pub owned : List ℕ
+  pub granted : ℕ
+  pub placed : List ℕ
+  pub marked : List (Option ℕ)
+  pub claimed_room : ℕ
+  pub owned_room : ℕ
+
+-- All lists: their name, how many chunks there are and how many of them are free, the shut lists in the order
+-- in which they were shut, how many of them are cleared, for each birth how many readers and filers are out,
+-- for how many grants and answers of the next filer there is room, and how many slots were ever granted.
+pub record Store : Type 0 where
+  pub name : List ℕ
+  pub chunks : ℕ
+  pub rows : List Row
+  pub free : ℕ
+  pub order : List ℕ
+  pub cleared : ℕ
+  pub out : List ℕ
+  pub grants_room : ℕ
+  pub items_room : ℕ
+  pub given : ℕ
+
+abbrev pub no_row : Row
+no_row = record { phase = Fresh; claimed = []; owned = []; granted = 0; placed = []; marked = []; claimed_room = 0; owned_room = 0 }
+
+-- the row of a list, which for a number past the lists was never opened
+abbrev pub row_in : List Row → ℕ → Row
+row_in rows l = slice_index_or rows l no_row
+
+abbrev pub row : Store → ℕ → Row
+row s l = row_in s.rows l
+
+abbrev pub IsOpen : Store → ℕ → Type 0
+IsOpen s l = (row s l).phase ≡ Open
+
+abbrev pub IsShut : Store → ℕ → Type 0
+IsShut s l = (row s l).phase ≡ Shut
+
+-- the chunks of both chains
+abbrev pub chunks_of : Row → List ℕ
+chunks_of r = r.claimed ++ r.owned
+
+-- a chunk stands in the chains of no list
+abbrev pub IsInNoChain : Store → ℕ → Type 0
+IsInNoChain s c = (l : ℕ) → Contains (chunks_of (row s l)) c → ⊥
+
+-- the items that the sweep of a shut list appended: those of the claimed slots, and then those of the owned ones
+abbrev pub found_in : Row → List ℕ
+found_in r = filter_map (λ x. x) r.marked ++ r.placed
+
+-- ---- one list changes
+
+abbrev pub with_row : Store → ℕ → Row → Store
+with_row s l r = record s { rows = slice_set s.rows l r }
+
+abbrev pub roomier : Row → ℕ → ℕ → Row
+roomier r claimed owned = record r { claimed_room = max r.claimed_room claimed; owned_room = max r.owned_room owned }
+
+abbrev pub opened : Row → Row
+opened r = record r { phase = Open; claimed = []; owned = []; granted = 0; placed = []; marked = [] }
+
+abbrev pub linked : Row → ℕ → Row
+linked r c = record r { claimed = r.claimed ++ c ∷ []; claimed_room = r.claimed_room - 1 }
+
+abbrev pub lengthened : Row → ℕ → Row
+lengthened r c = record r { owned = r.owned ++ c ∷ []; owned_room = r.owned_room - 1 }
+
+abbrev pub placed_in : Row → ℕ → Row
+placed_in r item = record r { placed = r.placed ++ item ∷ [] }
+
+abbrev pub more_granted : Row → ℕ → Row
+more_granted r n = record r { granted = r.granted + n }
+
+abbrev pub shut_with : Row → List (Option ℕ) → Row
+shut_with r marked = record r { phase = Shut; marked = marked }
+
+abbrev pub emptied : Row → Row
+emptied r = record r { claimed = []; owned = []; placed = []; marked = []; claimed_room = 0; owned_room = 0 }
+
+-- a chunk was taken for a chain
+abbrev pub with_chunk : Store → ℕ → Row → Store
+with_chunk s l r = record s { rows = slice_set s.rows l r; free = s.free - 1 }
+
+-- a list was shut, and is the last in the order of shuts
+abbrev pub shut_now : Store → ℕ → List (Option ℕ) → Store
+shut_now s l marked = record s { rows = slice_set s.rows l (shut_with (row s l) marked); order = s.order ++ l ∷ []; out = s.out ++ 0 ∷ [] }
+
+-- ---- readers and filers
+
+-- the birth of what is made now: how many lists are shut
+abbrev pub birth_now : Store → ℕ
+birth_now s = length s.order
+
+-- how many readers and filers are out
+abbrev pub seats_out : Store → ℕ
+seats_out s = sum s.out
+
+abbrev pub counted : List ℕ → ℕ → List ℕ
+counted out birth = slice_set out birth (slice_index out birth + 1)
+
+abbrev pub counted_off : List ℕ → ℕ → List ℕ
+counted_off out birth = slice_set out birth (slice_index out birth - 1)
+
+-- one more that was born now, and one less of a birth
+abbrev pub one_more : Store → Store
+one_more s = record s { out = counted s.out (birth_now s) }
+
+abbrev pub one_less : Store → ℕ → Store
+one_less s birth = record s { out = counted_off s.out birth }
+
+abbrev pub with_filer_room : Store → ℕ → ℕ → Store
+with_filer_room s grants items = record s { grants_room = max s.grants_room grants; items_room = max s.items_room items }
+
+-- the rows after grants
+abbrev pub grant_rows : List Grant → List Row → List Row
+grant_rows [] rows = rows
+grant_rows (g ∷ gs) rows = grant_rows gs (slice_set rows g.list (more_granted (row_in rows g.list) g.n))
+
+-- a filer with these grants was made
+abbrev pub admitted : Store → List Grant → Store
+admitted s gs = record s { rows = grant_rows gs s.rows; out = counted s.out (birth_now s); grants_room = 0; items_room = 0; given = s.given + granted_in_all gs }
+
+-- a filer with these grants may be made
+pub record MayAdmit (s : Store) (gs : List Grant) : Type 0 where
+  pub grants_room : length gs ≤ s.grants_room
+  pub items_room : granted_in_all gs ≤ s.items_room
+  pub apart : AllPairs (λ (a b : Grant). a.list ≢ b.list) gs
+  pub takes : All (λ (g : Grant). IsOpen s g.list × ((row s g.list).granted + g.n ≤ 256 * length (row s g.list).claimed)) gs
+  pub few : s.given + granted_in_all gs < 2147483648
+  pub seats : seats_out s < 18446744073709551615
+
+-- ---- clearing
+
+-- how many chunks of a list are held: those of a shut list that is not cleared, since a cleared one has none
+abbrev pub is_shut : Phase → Bool
+is_shut Fresh = false
+is_shut Open = false
+is_shut Shut = true
+
+abbrev pub held_in : Row → ℕ
+held_in r = if is_shut r.phase then length (chunks_of r) else 0
+
+abbrev pub held_of : Store → ℕ
+held_of s = sum_by held_in s.rows
+
+-- nobody is out who was born before the list at a place of the order was shut
+abbrev pub Unreached : List ℕ → ℕ → Type 0
+Unreached out p = (b : ℕ) → b ≤ p → slice_index out b ≡ 0
+
+-- the shut lists at the places from s.cleared to n are those that may be cleared
+pub record ClearsTo (s : Store) (n : ℕ) : Type 0 where
+  pub rises : s.cleared ≤ n
+  pub within : n ≤ length s.order
+  pub nobody : (p : ℕ) → s.cleared ≤ p → p < n → Unreached s.out p
+  pub stops : n < length s.order → Unreached s.out n → ⊥
+
+-- lists are cleared
+abbrev pub clear_rows : List ℕ → List Row → List Row
+clear_rows [] rows = rows
+clear_rows (l ∷ ls) rows = clear_rows ls (slice_set rows l (emptied (row_in rows l)))
+
+-- exactly the lists that may be cleared are cleared, and their chunks are free
+pub record IsReclaimed (old new : Store) : Type 0 where
+  pub to : ClearsTo old new.cleared
+  pub free : new.free + held_of new ≡ old.free + held_of old
+  pub rest : new ≡ record old { rows = clear_rows (drop old.cleared (take new.cleared old.order)) old.rows; free = new.free; cleared = new.cleared }
+
+-- a list whose clearing is done
+abbrev pub IsCleared : Store → ℕ → Type 0
+IsCleared s l = Contains (take s.cleared s.order) l
+
+-- ---- what is known of items
+
+-- who a reader is: the name of its lists, and how many lists were shut when it was made
+pub record Seat : Type 0 where
+  pub name : List ℕ
+  pub birth : ℕ
+
+-- no item of a list is forgotten
+abbrev pub Keeps : (ℕ → ℕ → Type 0) → (ℕ → ℕ → Type 0) → Type 0
+Keeps before after = (l x : ℕ) → before l x → after l x

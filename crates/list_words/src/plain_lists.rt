@@ -1,0 +1,378 @@
+ghost use Rattle.std.specs.Prelude.{◌≡◌, ℕ, suc, ◌+◌, ◌*◌, ◌/◌, ◌%◌, ◌^◌, ◌<◌, ◌≤◌, ◌≢◌, ◌↔◌, ◌⊎◌, Bool, if◌then◌else◌, All, AllPairs, replicate, [], ◌++◌, Some, length, slice_get, slice_index, sum, IfOk, OnOk, OnErr, IsTrue, vec_len};
+ghost use Rattle.std.specs.FinSet as set;
+ghost use Rattle.chunk_pool.specs.Numbers.{IsFree};
+ghost use Rattle.list_machine.specs.Words.{decode};
+ghost use Rattle.list_machine.specs.declared.views.Grant.{Grant};
+ghost use Rattle.list_words.specs.Filing.{HasGrant, answered, granted_in_all};
+ghost use Rattle.list_words.specs.Plain.{Plain, Bears, BearsOut, chain, chain_items, chunk_at, fresh_plain, list_in, next_cleared, next_list, slot_word, store_of, with_list, word_with};
+ghost use Rattle.list_words.specs.PlainRows.{filed_list, no_list};
+ghost use Rattle.list_words.specs.PlainGrants.{MayGrant, grant_lists};
+ghost use Rattle.list_words.specs.Store.{IsInNoChain, Unreached, counted, counted_off};
+ghost use Rattle.list_words.specs.declared.leaf_lists.Filed.TheVariants.{At, Late};
+ghost use Rattle.list_words.specs.declared.leaf_lists.Phase.TheVariants.{Shut};
+ghost use Rattle.list_words.specs.declared.leaf_lists.Seen.TheVariants.{Shut as SawShut};
+
+use crate::plain_filer::PlainReader;
+use crate::plain_homes::Home;
+use crate::plain_row::{PlainRow, append_within, push_within};
+use crate::{Answer, Filed, Grant, LeafLists, Phase, PlainFiler};
+use chunk_pool::Pool;
+use std::alloc::{AllocError, Global};
+use std::marker::Model;
+use std::mem;
+
+/// Lists over vectors, for one thread. Contracts see the lists with their items, and what is counted of them.
+#[derive(Drop)]
+pub struct PlainLists {
+    rows: Vec<PlainRow>,
+    pool: Pool,
+    homes: Vec<Home>,
+    order: Vec<u32>,
+    cleared: u32,
+    out: Vec<u64>,
+    seats: u64,
+    held: u32,
+    given: u32,
+    spare_grants: Vec<Grant>,
+    spare_answers: Vec<Answer>,
+    grants_room: u32,
+    items_room: u32,
+    alloc: Global,
+}
+
+impl Model for PlainLists {
+    ghost use Rattle.list_words.specs.Plain.{Plain};
+
+    ghost Value = { Plain };
+
+    ghost use Rattle.list_words.specs.PlainKept.{plain_of, IsKept};
+
+    ghost view = { plain_of };
+
+    ghost invariant = { IsKept };
+}
+
+impl PlainLists {
+    /// So many lists that were never opened, and so many free chunks.
+    pub fn new(alloc: Global, lists: u32, chunks: u32) -> Result<PlainLists, AllocError>
+        requires lists { lists ≤ 200000 }
+        requires chunks { chunks ≤ 1000000 }
+        ensures { IfOk result (λ all. all ≡ fresh_plain lists chunks) }
+    {
+        let rows = fresh_rows(alloc, lists)?;
+        let nowhere = Home {
+            list: 0,
+            owned: false,
+            rank: 0,
+        };
+        let homes = vec![in alloc; nowhere; chunks as usize]?;
+        let mut out = Vec::with_capacity(alloc, lists as usize + 1)?;
+        push_within(&mut out, 0);
+        let pool = Pool::new(alloc, chunks)?;
+        let order = Vec::with_capacity(alloc, lists as usize)?;
+        Ok(PlainLists {
+            rows,
+            pool,
+            homes,
+            order,
+            cleared: 0,
+            out,
+            seats: 0,
+            held: 0,
+            given: 0,
+            spare_grants: Vec::new(alloc),
+            spare_answers: Vec::new(alloc),
+            grants_room: 0,
+            items_room: 0,
+            alloc,
+        })
+    }
+
+    /// Claims the next slot of the list's claimed chain and files the item there, or tells that the list is shut.
+    /// It uses one grant of the filer in the list.
+    pub fn file(&mut self, filer: &mut PlainFiler, list: u32, item: u32) -> Filed
+        requires granted { HasGrant filer.old list }
+        requires room { ((list_in self.old.lists list).phase ≡ Shut → ⊥) → length (list_in self.old.lists list).filed < (list_in self.old.lists list).granted }
+        ensures filer { filer.new ≡ answered filer.old list item result }
+        ensures late { (list_in self.old.lists list).phase ≡ Shut → (result ≡ Late SawShut) × (self.new ≡ self.old) }
+        ensures filed { ((list_in self.old.lists list).phase ≡ Shut → ⊥) → self.new ≡ with_list self.old list (filed_list (list_in self.old.lists list) item) }
+        ensures at { ((list_in self.old.lists list).phase ≡ Shut → ⊥) → (c : ℕ) × (slice_get (list_in self.old.lists list).claimed (length (list_in self.old.lists list).filed / 256) ≡ Some c) × (result ≡ At c (length (list_in self.old.lists list).filed % 256)) }
+    {
+        let row = &mut self.rows[list as usize];
+        let filed = row.file(item);
+        filer.record(list, item, filed);
+        filed
+    }
+
+    /// The word of a slot: 0 where it has no item, and the item with the moved bit where the list is shut.
+    pub fn slot(&self, chunk: u32, i: u32) -> u64
+        requires chunk { chunk < self.now.chunks }
+        requires within { i < 256 }
+        ensures word { (owned : Bool) (l r : ℕ) → chunk_at self.now.lists owned l r ≡ Some chunk → decode result ≡ slot_word (list_in self.now.lists l) owned r i }
+        ensures free { IsInNoChain (store_of self.now) chunk → result ≡ 0 }
+    {
+        let home = self.homes[chunk as usize];
+        match self.rows.get(home.list as usize) {
+            Some(row) => row.slot(home.owned, home.rank, chunk, i),
+            None => 0,
+        }
+    }
+
+    /// Whether the slot or claim word that the answer names bears it out.
+    fn bears(&self, answer: &Answer) -> bool
+        ensures { IsTrue result → Bears (list_in self.now.lists answer.now.list) answer.now.item answer.now.filed }
+    {
+        let Some(row) = self.rows.get(answer.list as usize) else {
+            return false;
+        };
+        match answer.filed {
+            Filed::At { chunk, slot } => match self.homes.get(chunk as usize) {
+                Some(home) => row.has_filed(home.rank, chunk, slot, answer.item),
+                None => false,
+            },
+            Filed::Late { .. } => row.phase() == Phase::Shut,
+        }
+    }
+
+    /// Whether the next list in the order of shuts may be cleared.
+    fn may_clear(&self) -> bool
+        ensures may { IsTrue result ↔ ((self.now.cleared < length self.now.order) × Unreached self.now.out self.now.cleared) }
+        ensures begun { self.now.cleared ≤ length self.now.order }
+    {
+        let next = self.cleared as usize;
+        next < self.order.len() && self.out[next] == 0
+    }
+
+    /// Clears the next list in the order of shuts.
+    fn clear_next(&mut self)
+        requires some { self.old.cleared < length self.old.order }
+        requires nobody { Unreached self.old.out self.old.cleared }
+        ensures cleared { self.new ≡ next_cleared self.old }
+        ensures shut { (list_in self.old.lists (next_list self.old)).phase ≡ Shut }
+    {
+        let list = self.order[self.cleared as usize];
+        let row = &mut self.rows[list as usize];
+        give_all(&mut self.pool, row.claimed());
+        give_all(&mut self.pool, row.owned());
+        self.held -= (row.claimed().len() + row.owned().len()) as u32;
+        row.empty(self.alloc);
+        self.cleared += 1;
+    }
+}
+
+impl LeafLists for PlainLists {
+    ghost use Rattle.std.specs.Prelude.{◌≡◌, ℕ, []};
+    ghost use Rattle.list_words.specs.Plain.{Knows, BearsOut, store_of};
+
+    type Filer = PlainFiler;
+
+    type Reader = PlainReader;
+
+    ghost store = { store_of };
+
+    ghost knows = { Knows };
+
+    ghost seat = { λ r. record { name = []; birth = r.birth } };
+
+    // such lists are read by their owner alone, so of a reader nothing is to be said
+    ghost sees = { λ _ _ _. Unit {0} };
+
+    ghost borne_out = { BearsOut };
+
+    fn free(&self) -> u32 {
+        self.pool.free()
+    }
+
+    fn claimed(&self, list: u32) -> &[u32] {
+        let row = &self.rows[list as usize];
+        row.claimed()
+    }
+
+    fn owned(&self, list: u32) -> &[u32] {
+        let row = &self.rows[list as usize];
+        row.owned()
+    }
+
+    fn reserve(&mut self, list: u32, claimed: u32, owned: u32) -> Result<(), AllocError> {
+        let row = &mut self.rows[list as usize];
+        row.reserve(claimed, owned)?;
+        Ok(())
+    }
+
+    fn open_list(&mut self, list: u32) {
+        let row = &mut self.rows[list as usize];
+        row.open();
+    }
+
+    fn extend_claimed(&mut self, list: u32) {
+        let Some(chunk) = self.pool.take() else {
+            unreachable!()
+        };
+        let row = &mut self.rows[list as usize];
+        self.homes[chunk as usize] = Home {
+            list,
+            owned: false,
+            rank: row.claimed().len() as u32,
+        };
+        row.link(chunk);
+    }
+
+    fn extend_owned(&mut self, list: u32) {
+        let Some(chunk) = self.pool.take() else {
+            unreachable!()
+        };
+        let row = &mut self.rows[list as usize];
+        self.homes[chunk as usize] = Home {
+            list,
+            owned: true,
+            rank: row.owned().len() as u32,
+        };
+        row.lengthen(chunk);
+    }
+
+    fn place(&mut self, list: u32, item: u32) -> (u32, u32) {
+        let row = &mut self.rows[list as usize];
+        row.place(item)
+    }
+
+    fn shut_and_sweep(&mut self, list: u32, out: &mut Vec<u32>) {
+        let row = &mut self.rows[list as usize];
+        row.sweep(out);
+        self.held += (row.claimed().len() + row.owned().len()) as u32;
+        push_within(&mut self.order, list);
+        push_within(&mut self.out, 0);
+    }
+
+    fn reserve_filer(&mut self, grants: u32, items: u32) -> Result<(), AllocError> {
+        self.spare_grants.reserve(grants as usize)?;
+        self.spare_answers.reserve(items as usize)?;
+        self.grants_room = self.grants_room.max(grants);
+        self.items_room = self.items_room.max(items);
+        Ok(())
+    }
+
+    fn admit(&mut self, grants: &[Grant]) -> PlainFiler {
+        let mut kept = mem::replace(&mut self.spare_grants, Vec::new(self.alloc));
+        append_within(&mut kept, grants);
+        let answers = mem::replace(&mut self.spare_answers, Vec::new(self.alloc));
+        self.given += grant_all(&mut self.rows, grants);
+        self.grants_room = 0;
+        self.items_room = 0;
+        let birth = self.order.len();
+        self.out[birth] += 1;
+        self.seats += 1;
+        PlainFiler::new(birth as u32, kept, answers)
+    }
+
+    fn vouches(&self, filer: &PlainFiler) -> bool
+        ensures { IsTrue result → BearsOut self.now filer.now }
+    {
+        if !is_counted(&self.out, filer.birth()) {
+            return false;
+        }
+        for answer in filer.answers() {
+            if !self.bears(answer) {
+                return false;
+            }
+        }
+        true
+    }
+
+    fn take_back(&mut self, filer: PlainFiler) {
+        if count_off(&mut self.out, filer.birth()) {
+            self.seats -= 1;
+        }
+    }
+
+    fn note(&mut self) -> PlainReader {
+        let now = self.order.len();
+        self.out[now] += 1;
+        self.seats += 1;
+        PlainReader { birth: now as u32 }
+    }
+
+    fn reclaim(&mut self) {
+        while self.may_clear() {
+            self.clear_next();
+        }
+    }
+
+    fn held(&self) -> u32 {
+        self.held
+    }
+
+    fn unpin(&mut self, reader: PlainReader) {
+        if count_off(&mut self.out, reader.birth) {
+            self.seats -= 1;
+        }
+    }
+
+    fn seats_out(&self) -> u64 {
+        self.seats
+    }
+}
+
+/// So many lists that were never opened.
+fn fresh_rows(alloc: Global, lists: u32) -> Result<Vec<PlainRow>, AllocError>
+    ensures { IfOk result (λ rows. rows.items ≡ replicate lists no_list) }
+{
+    let mut rows = Vec::with_capacity(alloc, lists as usize)?;
+    for _ in 0..lists {
+        rows.push(PlainRow::new(alloc))?;
+    }
+    Ok(rows)
+}
+
+/// Lets the slots of the grants be claimed. Answers how many these are in all.
+fn grant_all(rows: &mut Vec<PlainRow>, grants: &[Grant]) -> u32
+    requires apart { AllPairs (λ (a b : Grant). a.list ≢ b.list) grants.now }
+    requires takes { All (MayGrant rows.old.items) grants.now }
+    requires few { granted_in_all grants.now < 2 ^ 31 }
+    ensures rows { rows.new.items ≡ grant_lists grants.now rows.old.items }
+    ensures len { vec_len rows.new ≡ vec_len rows.old }
+    ensures all { result ≡ granted_in_all grants.now }
+{
+    let mut all = 0;
+    for grant in grants {
+        let row = &mut rows[grant.list as usize];
+        row.grant(grant.n);
+        all += grant.n;
+    }
+    all
+}
+
+/// Whether anybody of a birth is out.
+fn is_counted(out: &[u64], birth: u32) -> bool
+    ensures { IsTrue result ↔ (0 < slice_index out.now birth) }
+{
+    let at = birth as usize;
+    at < out.len() && 0 < out[at]
+}
+
+/// Counts one of a birth off. Where nobody of that birth is out, it answers false and the counts stay.
+fn count_off(out: &mut [u64], birth: u32) -> bool
+    ensures out { out.new ≡ counted_off out.old birth }
+    ensures counted { sum out.new + (if result then 1 else 0) ≡ sum out.old }
+{
+    let at = birth as usize;
+    if at < out.len() && 0 < out[at] {
+        out[at] -= 1;
+        true
+    } else {
+        false
+    }
+}
+
+/// Makes chunks free again that were in use, each once.
+fn give_all(pool: &mut Pool, chunks: &[u32])
+    requires below { (i c : ℕ) → slice_get chunks.now i ≡ Some c → c < pool.old.size }
+    requires taken { (i c : ℕ) → slice_get chunks.now i ≡ Some c → IsFree pool.old c → ⊥ }
+    requires apart { (i j c : ℕ) → slice_get chunks.now i ≡ Some c → slice_get chunks.now j ≡ Some c → i ≡ j }
+    ensures size { pool.new.size ≡ pool.old.size }
+    ensures count { set.len pool.new.free ≡ set.len pool.old.free + length chunks.now }
+    ensures given { (c : ℕ) → IsFree pool.new c → IsFree pool.old c ⊎ ((i : ℕ) × (slice_get chunks.now i ≡ Some c)) }
+{
+    for chunk in chunks {
+        pool.give(*chunk);
+    }
+}

@@ -48,6 +48,7 @@ pub record IsClearing (p q : Plain) : Type 0 where
   pub order_is : q.order ≡ p.order
   pub out_is : q.out ≡ p.out
   pub known : (l x : ℕ) → (Contains (take q.cleared p.order) l → ⊥) → Knows p l x → Knows q l x
+  pub stays : (l : ℕ) → (Contains (take q.cleared p.order) l → ⊥) → list_in q.lists l ≡ list_in p.lists l
 
 drop_all_taken : (n : ℕ) (xs : List ℕ) → drop n (take n xs) ≡ []
 drop_all_taken zero xs = refl
@@ -63,6 +64,7 @@ clearing_none p = record {
   order_is = refl;
   out_is = refl;
   known = λ l x uncleared known. known;
+  stays = λ l uncleared. refl;
 }
 
 contains_last : (l m : ℕ) → m ≡ l → Contains (l ∷ []) m
@@ -104,6 +106,10 @@ clearing_more p q done some nobody shut_now =
           let before : Contains (take q.cleared p.order) m → ⊥ = λ inside. uncleared (subst (λ (xs : List ℕ). Contains xs m) (sym taken) (Contains-append_left (take q.cleared p.order) (l ∷ []) m inside)) in
           let other : m ≢ l = λ same. uncleared (subst (λ (xs : List ℕ). Contains xs m) (sym taken) (Contains-append_right (take q.cleared p.order) (l ∷ []) m (contains_last l m same))) in
           subst (λ (b : PlainList). Contains (items_of b) x × (0 < length (all_chunks b))) (sym (list_in-set_other q.lists l m e other)) (done.known m x before known);
+      stays = λ m uncleared.
+          let before : Contains (take q.cleared p.order) m → ⊥ = λ inside. uncleared (subst (λ (xs : List ℕ). Contains xs m) (sym taken) (Contains-append_left (take q.cleared p.order) (l ∷ []) m inside)) in
+          let other : m ≢ l = λ same. uncleared (subst (λ (xs : List ℕ). Contains xs m) (sym taken) (Contains-append_right (take q.cleared p.order) (l ∷ []) m (contains_last l m same))) in
+          list_in-set_other q.lists l m e other ∙ done.stays m before;
     }
 
 pub cleared_all : (p q : Plain) → IsClearing p q → q.cleared ≤ length q.order → ((q.cleared < length q.order) × Unreached q.out q.cleared → ⊥) → IsReclaimed (store_of p) (store_of q)

@@ -14,7 +14,7 @@ use Rattle.list_words.specs.PlainRows.{emptied_list, granted_list, placed_list, 
 use Rattle.list_words.specs.PlainGrants.{MayGrant, grant_lists}
 use Rattle.list_machine.specs.declared.views.Grant.{Grant}
 use Rattle.list_words.specs.PlainRows.{PlainList, items_of, no_list, row_of}
-use Rattle.list_words.specs.Plain.{Plain, Bears, BearsOut, Knows, StandsAt, all_chunks, chain, chunk_at, chunk_count, held_chunks, list_in, next_cleared, next_list, shut_count, store_of, with_list}
+use Rattle.list_words.specs.Plain.{Plain, Bears, BearsOut, Knows, StandsAt, all_chunks, chain, chunk_at, chunk_count, held_chunks, list_in, next_cleared, next_list, shut_count, store_of, with_list, SameFiled}
 use Rattle.list_words.specs.PlainKept.{AreHomed, AreOrdered, AreSummed}
 use Rattle.list_words.specs.declared.leaf_lists.Answer.{Answer}
 use Rattle.list_words.specs.declared.leaf_lists.Filed.{Filed}
@@ -330,3 +330,24 @@ may_grant p q pool held shuts g same kept few open_now slots =
     let row_is : row (store_of q) g.list ≡ row_of (list_in p.lists g.list) = row-map q.lists g.list ∙ ap (λ (s : Plain). row_of (list_in s.lists g.list)) (sym same) in
     let here : (list_in p.lists g.list).granted + g.n ≤ 256 * length (list_in p.lists g.list).claimed = subst (λ (r : Row). r.granted + g.n ≤ 256 * length r.claimed) row_is slots in
     record { takes = phase; slots = here; fits = omega (arith, count-le p.lists pool held shuts g.list kept low) }
+
+-- ---- the items that were filed
+
+pub filed_changed : (p : Plain) (l : ℕ) (old new : PlainList) → l < length p.lists → old ≡ list_in p.lists l → new.filed ≡ old.filed → SameFiled p (with_list p l new)
+filed_changed p l old new low is same = λ m. elim (cases_eq m l) [
+  | inl here ↦ ap (λ (q : PlainList). q.filed) (ap (list_in (set p.lists l new)) here ∙ list_in-set_same p.lists l new low) ∙ same ∙ ap (λ (q : PlainList). q.filed) (is ∙ ap (list_in p.lists) (sym here))
+  | inr other ↦ ap (λ (q : PlainList). q.filed) (list_in-set_other p.lists l m new other)
+]
+
+filed_one : (lists : List PlainList) (m n l : ℕ) → (list_in (set lists m (granted_list (list_in lists m) n)) l).filed ≡ (list_in lists l).filed
+filed_one lists m n l = elim (cases_eq l m) [
+  | inr other ↦ ap (λ (q : PlainList). q.filed) (list_in-set_other lists m l (granted_list (list_in lists m) n) other)
+  | inl same ↦ elim (cases_lt m (length lists)) [
+    | inl low ↦ ap (λ (q : PlainList). q.filed) (ap (list_in (set lists m (granted_list (list_in lists m) n))) same ∙ list_in-set_same lists m (granted_list (list_in lists m) n) low) ∙ ap (λ k. (list_in lists k).filed) (sym same)
+    | inr high ↦ ap (λ (ls : List PlainList). (list_in ls l).filed) (set_past lists m (granted_list (list_in lists m) n) high)
+  ]
+]
+
+pub filed-grants : (gs : List Grant) (lists : List PlainList) (l : ℕ) → (list_in (grant_lists gs lists) l).filed ≡ (list_in lists l).filed
+filed-grants [] lists l = refl
+filed-grants (g ∷ gs) lists l = filed-grants gs (set lists g.list (granted_list (list_in lists g.list) g.n)) l ∙ filed_one lists g.list g.n l

@@ -1,7 +1,8 @@
 -- Lists over vectors, as plain data.
 use Rattle.std.specs.Prelude.{◌≡◌, ℕ, suc, ◌+◌, ◌*◌, ◌<◌, Bool, if◌then◌else◌, List, [], ◌∷◌, ◌++◌, length, map, slice_get, slice_set, slice_index, slice_index_or, Option, Some, None, Contains, All, replicate}
 use Rattle.list_machine.specs.Words.{Word, blank, holding, raised}
-use Rattle.list_words.specs.Store.{Store, is_shut}
+use Rattle.list_words.specs.Store.{Seat, Store, is_shut}
+use Rattle.list_words.specs.declared.plain_filer.PlainReader.{PlainReader}
 use Rattle.list_words.specs.Filing.{Filing}
 use Rattle.list_words.specs.PlainRows.{PlainList, no_list, row_of, items_of, emptied_list}
 use Rattle.list_words.specs.declared.leaf_lists.Answer.{Answer}
@@ -40,6 +41,14 @@ all_chunks p = p.claimed ++ p.owned
 -- the item stands in a slot of the list, as it was filed or placed there
 abbrev pub Knows : Plain → ℕ → ℕ → Type 0
 Knows p l x = Contains (items_of (list_in p.lists l)) x × (0 < length (all_chunks (list_in p.lists l)))
+
+-- the items filed in the claimed slots of each list stay
+abbrev pub SameFiled : Plain → Plain → Type 0
+SameFiled p q = (l : ℕ) → (list_in q.lists l).filed ≡ (list_in p.lists l).filed
+
+-- who a reader is
+abbrev pub seat_of : PlainReader → Seat
+seat_of r = record { name = []; birth = r.birth }
 
 abbrev pub with_list : Plain → ℕ → PlainList → Plain
 with_list p l b = record p { lists = slice_set p.lists l b }

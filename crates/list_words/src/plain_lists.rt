@@ -1,15 +1,18 @@
-ghost use Rattle.std.specs.Prelude.{◌≡◌, ℕ, suc, ◌+◌, ◌*◌, ◌/◌, ◌%◌, ◌^◌, ◌<◌, ◌≤◌, ◌≢◌, ◌↔◌, ◌⊎◌, Bool, if◌then◌else◌, All, AllPairs, replicate, [], ◌++◌, Some, length, slice_get, slice_index, sum, IfOk, OnOk, OnErr, IsTrue, vec_len};
+ghost use Rattle.std.specs.Prelude.{◌≡◌, ◌≢◌, ℕ, suc, ◌+◌, ◌-◌, ◌*◌, ◌/◌, ◌%◌, ◌^◌, ◌<◌, ◌≤◌, ◌↔◌, ◌⊎◌, Bool, if◌then◌else◌, All, AllPairs, replicate, List, [], ◌++◌, Option, Some, length, slice_get, slice_index, sum, Contains, IfOk, OnOk, OnErr, IsTrue, vec_len};
 ghost use Rattle.std.specs.FinSet as set;
 ghost use Rattle.chunk_pool.specs.Numbers.{IsFree};
 ghost use Rattle.list_machine.specs.Words.{decode};
 ghost use Rattle.list_machine.specs.declared.views.Grant.{Grant};
 ghost use Rattle.list_words.specs.Filing.{HasGrant, answered, granted_in_all};
-ghost use Rattle.list_words.specs.Plain.{Plain, Bears, BearsOut, chain, chain_items, chunk_at, fresh_plain, list_in, next_cleared, next_list, slot_word, store_of, with_list, word_with};
-ghost use Rattle.list_words.specs.PlainRows.{filed_list, no_list};
+ghost use Rattle.list_words.specs.Plain.{Bears, BearsOut, Knows, SameFiled, chunk_at, fresh_plain, list_in, next_cleared, next_list, seat_of, slot_word, store_of, with_list};
+ghost use Rattle.list_words.specs.PlainRows.{filed_list, items_of, no_list};
 ghost use Rattle.list_words.specs.PlainGrants.{MayGrant, grant_lists};
-ghost use Rattle.list_words.specs.Store.{IsInNoChain, Unreached, counted, counted_off};
+ghost use Rattle.list_words.specs.Store.{IsCleared, IsInNoChain, IsOpen, IsReclaimed, IsShut, Keeps, MayAdmit, Unreached, admitted, birth_now, chunks_of, counted_off, found_in, lengthened, linked, one_less, one_more, opened, placed_in, roomier, row, seats_out, shut_now, with_chunk, with_filer_room, with_row};
 ghost use Rattle.list_words.specs.declared.leaf_lists.Filed.TheVariants.{At, Late};
-ghost use Rattle.list_words.specs.declared.leaf_lists.Phase.TheVariants.{Shut};
+ghost use Rattle.list_words.specs.declared.leaf_lists.Answer.{Answer};
+ghost use Rattle.list_words.specs.declared.leaf_lists.Seen.{Seen};
+ghost use Rattle.list_words.specs.declared.leaf_lists.Phase.TheVariants.{Fresh, Shut};
+ghost use Rattle.std.specs.Vec.{vec_capacity};
 ghost use Rattle.list_words.specs.declared.leaf_lists.Seen.TheVariants.{Shut as SawShut};
 
 use crate::plain_filer::PlainReader;
@@ -161,8 +164,7 @@ impl PlainLists {
 }
 
 impl LeafLists for PlainLists {
-    ghost use Rattle.std.specs.Prelude.{◌≡◌, ℕ, []};
-    ghost use Rattle.list_words.specs.Plain.{Knows, BearsOut, store_of};
+    ghost use Rattle.list_words.specs.Plain.{Knows, BearsOut, seat_of, store_of};
 
     type Filer = PlainFiler;
 
@@ -172,7 +174,7 @@ impl LeafLists for PlainLists {
 
     ghost knows = { Knows };
 
-    ghost seat = { λ r. record { name = []; birth = r.birth } };
+    ghost seat = { seat_of };
 
     // such lists are read by their owner alone, so of a reader nothing is to be said
     ghost sees = { λ _ _ _. Unit {0} };
@@ -193,18 +195,37 @@ impl LeafLists for PlainLists {
         row.owned()
     }
 
-    fn reserve(&mut self, list: u32, claimed: u32, owned: u32) -> Result<(), AllocError> {
+    fn reserve(&mut self, list: u32, claimed: u32, owned: u32) -> Result<(), AllocError>
+        requires { list < length (store_of self.old).rows }
+        ensures ok { OnOk result (store_of self.new ≡ with_row (store_of self.old) list (roomier (row (store_of self.old) list) claimed owned)) }
+        ensures err { OnErr result (store_of self.new ≡ store_of self.old) }
+        ensures known { Keeps (Knows self.old) (Knows self.new) }
+        ensures same_filed { SameFiled self.old self.new }
+    {
         let row = &mut self.rows[list as usize];
         row.reserve(claimed, owned)?;
         Ok(())
     }
 
-    fn open_list(&mut self, list: u32) {
+    fn open_list(&mut self, list: u32)
+        requires below { list < length (store_of self.old).rows }
+        requires new { (row (store_of self.old) list).phase ≡ Fresh }
+        ensures store { store_of self.new ≡ with_row (store_of self.old) list (opened (row (store_of self.old) list)) }
+        ensures known { Keeps (Knows self.old) (Knows self.new) }
+        ensures same_filed { SameFiled self.old self.new }
+    {
         let row = &mut self.rows[list as usize];
         row.open();
     }
 
-    fn extend_claimed(&mut self, list: u32) {
+    fn extend_claimed(&mut self, list: u32)
+        requires takes { IsOpen (store_of self.old) list }
+        requires room { 0 < (row (store_of self.old) list).claimed_room }
+        requires free { 0 < (store_of self.old).free }
+        ensures store { (c : ℕ) × (c < (store_of self.old).chunks) × IsInNoChain (store_of self.old) c × (store_of self.new ≡ with_chunk (store_of self.old) list (linked (row (store_of self.old) list) c)) }
+        ensures known { Keeps (Knows self.old) (Knows self.new) }
+        ensures same_filed { SameFiled self.old self.new }
+    {
         let Some(chunk) = self.pool.take() else {
             unreachable!()
         };
@@ -217,7 +238,14 @@ impl LeafLists for PlainLists {
         row.link(chunk);
     }
 
-    fn extend_owned(&mut self, list: u32) {
+    fn extend_owned(&mut self, list: u32)
+        requires takes { IsOpen (store_of self.old) list }
+        requires room { 0 < (row (store_of self.old) list).owned_room }
+        requires free { 0 < (store_of self.old).free }
+        ensures store { (c : ℕ) × (c < (store_of self.old).chunks) × IsInNoChain (store_of self.old) c × (store_of self.new ≡ with_chunk (store_of self.old) list (lengthened (row (store_of self.old) list) c)) }
+        ensures known { Keeps (Knows self.old) (Knows self.new) }
+        ensures same_filed { SameFiled self.old self.new }
+    {
         let Some(chunk) = self.pool.take() else {
             unreachable!()
         };
@@ -230,12 +258,30 @@ impl LeafLists for PlainLists {
         row.lengthen(chunk);
     }
 
-    fn place(&mut self, list: u32, item: u32) -> (u32, u32) {
+    fn place(&mut self, list: u32, item: u32) -> (u32, u32)
+        requires takes { IsOpen (store_of self.old) list }
+        requires room { length (row (store_of self.old) list).placed < 256 * length (row (store_of self.old) list).owned }
+        ensures store { store_of self.new ≡ with_row (store_of self.old) list (placed_in (row (store_of self.old) list) item) }
+        ensures chunk { slice_get (row (store_of self.old) list).owned (length (row (store_of self.old) list).placed / 256) ≡ Some result.0 }
+        ensures slot { result.1 ≡ length (row (store_of self.old) list).placed % 256 }
+        ensures placed { Knows self.new list item }
+        ensures known { Keeps (Knows self.old) (Knows self.new) }
+        ensures same_filed { SameFiled self.old self.new }
+    {
         let row = &mut self.rows[list as usize];
         row.place(item)
     }
 
-    fn shut_and_sweep(&mut self, list: u32, out: &mut Vec<u32>) {
+    fn shut_and_sweep(&mut self, list: u32, out: &mut Vec<u32>)
+        requires takes { IsOpen (store_of self.old) list }
+        requires room { vec_len out.old + 256 * length (chunks_of (row (store_of self.old) list)) ≤ vec_capacity out.old }
+        ensures store { (marked : List (Option ℕ)) × (length marked ≤ (row (store_of self.old) list).granted) × (store_of self.new ≡ shut_now (store_of self.old) list marked) }
+        ensures found { out.new.items ≡ out.old.items ++ found_in (row (store_of self.new) list) }
+        ensures swept { (x : ℕ) → Knows self.old list x → Contains (found_in (row (store_of self.new) list)) x }
+        ensures known { Keeps (Knows self.old) (Knows self.new) }
+        ensures same_filed { SameFiled self.old self.new }
+        ensures all { out.new.items ≡ out.old.items ++ items_of (list_in self.old.lists list) }
+    {
         let row = &mut self.rows[list as usize];
         row.sweep(out);
         self.held += (row.claimed().len() + row.owned().len()) as u32;
@@ -243,7 +289,12 @@ impl LeafLists for PlainLists {
         push_within(&mut self.out, 0);
     }
 
-    fn reserve_filer(&mut self, grants: u32, items: u32) -> Result<(), AllocError> {
+    fn reserve_filer(&mut self, grants: u32, items: u32) -> Result<(), AllocError>
+        ensures ok { OnOk result (store_of self.new ≡ with_filer_room (store_of self.old) grants items) }
+        ensures err { OnErr result (store_of self.new ≡ store_of self.old) }
+        ensures known { Keeps (Knows self.old) (Knows self.new) }
+        ensures same_filed { SameFiled self.old self.new }
+    {
         self.spare_grants.reserve(grants as usize)?;
         self.spare_answers.reserve(items as usize)?;
         self.grants_room = self.grants_room.max(grants);
@@ -251,7 +302,13 @@ impl LeafLists for PlainLists {
         Ok(())
     }
 
-    fn admit(&mut self, grants: &[Grant]) -> PlainFiler {
+    fn admit(&mut self, grants: &[Grant]) -> PlainFiler
+        requires { MayAdmit (store_of self.old) grants.now }
+        ensures store { store_of self.new ≡ admitted (store_of self.old) grants.now }
+        ensures filer { result ≡ record { name = (store_of self.old).name; birth = birth_now (store_of self.old); left = grants.now; answers = [] } }
+        ensures known { Keeps (Knows self.old) (Knows self.new) }
+        ensures same_filed { SameFiled self.old self.new }
+    {
         let mut kept = mem::replace(&mut self.spare_grants, Vec::new(self.alloc));
         append_within(&mut kept, grants);
         let answers = mem::replace(&mut self.spare_answers, Vec::new(self.alloc));
@@ -278,20 +335,39 @@ impl LeafLists for PlainLists {
         true
     }
 
-    fn take_back(&mut self, filer: PlainFiler) {
+    fn take_back(&mut self, filer: PlainFiler)
+        requires name { filer.name ≡ (store_of self.old).name }
+        requires borne_out { BearsOut self.old filer }
+        ensures store { store_of self.new ≡ one_less (store_of self.old) filer.birth }
+        ensures filed { (a : Answer) (c k : ℕ) → Contains filer.answers a → a.filed ≡ At c k → Knows self.new a.list a.item × (IsShut (store_of self.old) a.list → Contains (found_in (row (store_of self.old) a.list)) a.item) }
+        ensures late { (a : Answer) (s : Seen) → Contains filer.answers a → a.filed ≡ Late s → IsShut (store_of self.old) a.list }
+        ensures known { Keeps (Knows self.old) (Knows self.new) }
+        ensures same_filed { SameFiled self.old self.new }
+    {
         if count_off(&mut self.out, filer.birth()) {
             self.seats -= 1;
         }
     }
 
-    fn note(&mut self) -> PlainReader {
+    fn note(&mut self) -> PlainReader
+        requires { seats_out (store_of self.old) < 18446744073709551615 }
+        ensures store { store_of self.new ≡ one_more (store_of self.old) }
+        ensures reader { seat_of result ≡ record { name = (store_of self.old).name; birth = birth_now (store_of self.old) } }
+        ensures sees { (l x : ℕ) → IsOpen (store_of self.old) l → Knows self.old l x → (c : ℕ) × Contains (chunks_of (row (store_of self.old) l)) c × Unit {0} }
+        ensures known { Keeps (Knows self.old) (Knows self.new) }
+        ensures same_filed { SameFiled self.old self.new }
+    {
         let now = self.order.len();
         self.out[now] += 1;
         self.seats += 1;
         PlainReader { birth: now as u32 }
     }
 
-    fn reclaim(&mut self) {
+    fn reclaim(&mut self)
+        ensures store { IsReclaimed (store_of self.old) (store_of self.new) }
+        ensures known { (l x : ℕ) → (IsCleared (store_of self.new) l → ⊥) → Knows self.old l x → Knows self.new l x }
+        ensures stays { (l : ℕ) → (IsCleared (store_of self.new) l → ⊥) → list_in self.new.lists l ≡ list_in self.old.lists l }
+    {
         while self.may_clear() {
             self.clear_next();
         }
@@ -301,7 +377,12 @@ impl LeafLists for PlainLists {
         self.held
     }
 
-    fn unpin(&mut self, reader: PlainReader) {
+    fn unpin(&mut self, reader: PlainReader)
+        requires { (seat_of reader).name ≡ (store_of self.old).name }
+        ensures store { store_of self.new ≡ one_less (store_of self.old) (seat_of reader).birth }
+        ensures known { Keeps (Knows self.old) (Knows self.new) }
+        ensures same_filed { SameFiled self.old self.new }
+    {
         if count_off(&mut self.out, reader.birth) {
             self.seats -= 1;
         }

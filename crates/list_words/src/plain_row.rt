@@ -110,7 +110,7 @@ impl PlainRow {
     pub fn open(&mut self)
         requires { self.old.phase ≡ Fresh }
         ensures opened { self.new ≡ opened_list self.old }
-        ensures empty { (self.old.claimed ≡ []) × (self.old.owned ≡ []) }
+        ensures empty { (self.old.claimed ≡ []) × (self.old.owned ≡ []) × (self.old.filed ≡ []) }
     {
         self.phase = Phase::Open;
     }

@@ -8,6 +8,8 @@ use Rattle.list_words.specs.Plain.{Plain, store_of}
 use Rattle.list_words.specs.PlainKept.{AreHomed, AreOrdered, AreSummed, plain_of}
 use Rattle.list_words.proofs.SeatLaws.{counted_here, counted_is}
 use Rattle.list_words.proofs.StoreLaws.{homed-grants, known-grants, may_grant, ordered-grants, rows-grants, shut-le, summed-grants}
+use Rattle.list_words.specs.Plain.{list_in}
+use Rattle.list_words.proofs.StoreLaws.{filed-grants}
 use Rattle.list_words.proofs.plain_lists.PlainListsLeafLists.admit.Goals as goal
 
 pub grant_all-requires-clause-takes : goal.grant_all-requires-clause-takes
@@ -58,3 +60,7 @@ returns-clause-store c =
 
 pub returns-clause-known : goal.returns-clause-known
 returns-clause-known c = known-grants c.args.grants.now c.args.self.now (record (plain_of c.self.inside) { lists = c.grant_all.new.rows.items }) (c.grant_all.ensures.rows ∙ ap (λ (p : Plain). grant_lists c.args.grants.now p.lists) c.self.view_is)
+
+pub returns-clause-same_filed : goal.returns-clause-same_filed
+returns-clause-same_filed c = λ l.
+    ap (λ (ls : List PlainList). (list_in ls l).filed) c.grant_all.ensures.rows ∙ filed-grants c.args.grants.now c.self.inside.rows.items l ∙ ap (λ (p : Plain). (list_in p.lists l).filed) c.self.view_is

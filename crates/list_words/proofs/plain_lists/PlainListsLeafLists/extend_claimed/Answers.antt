@@ -11,6 +11,8 @@ use Rattle.list_words.specs.declared.leaf_lists.Phase.TheVariants.{Open}
 use Rattle.list_words.proofs.ChunkLaws.{homed-more, len-without, summed-more}
 use Rattle.list_words.proofs.PlainLaws.{ordered-set}
 use Rattle.list_words.proofs.StoreLaws.{known_changed, list_is, nowhere, open_low, open_phase, store_chunk}
+use Rattle.list_words.specs.Plain.{SameFiled}
+use Rattle.list_words.proofs.StoreLaws.{filed_changed}
 use Rattle.list_words.proofs.plain_lists.PlainListsLeafLists.extend_claimed.Goals as goal
 
 pub invariant_of-self : goal.invariant_of-self
@@ -65,3 +67,10 @@ returns-clause-known c =
     (known_changed (plain_of c.self.inside) c.args.list Q c.link.new.self low is
     (λ x some inside. subst (λ (q : PlainList). Contains (items_of q) x) (sym c.link.ensures) inside)
     (λ some. subst (λ (q : PlainList). 0 < length (all_chunks q)) (sym c.link.ensures) (omega (arith, some, length-append Q.claimed Q.owned, length-append (linked_list Q c.in-Some.chunk).claimed (linked_list Q c.in-Some.chunk).owned, length-append Q.claimed (c.in-Some.chunk ∷ [])))))
+
+pub returns-clause-same_filed : goal.returns-clause-same_filed
+returns-clause-same_filed c =
+    let low : c.args.list < length c.self.inside.rows.items = open_low (plain_of c.self.inside) c.args.self.now c.args.list c.self.view_is c.requires.takes in
+    let is : c.index_mut-row.result.now ≡ list_in c.self.inside.rows.items c.args.list = list_is c.self.inside.rows.items c.args.list c.index_mut-row.result.now low c.index_mut-row.ensures.value in
+    subst (λ p. SameFiled p (with_list (plain_of c.self.inside) c.args.list c.link.new.self)) c.self.view_is
+    (filed_changed (plain_of c.self.inside) c.args.list c.index_mut-row.result.now c.link.new.self low is (ap (λ (q : PlainList). q.filed) c.link.ensures))

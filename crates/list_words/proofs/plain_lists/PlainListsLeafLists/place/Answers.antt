@@ -7,6 +7,8 @@ use Rattle.list_words.specs.Plain.{Plain, Knows, all_chunks, list_in, store_of, 
 use Rattle.list_words.specs.PlainKept.{plain_of}
 use Rattle.list_words.proofs.PlainLaws.{row-map}
 use Rattle.list_words.proofs.StoreLaws.{SameShape, homed-same, known_changed, known_here, list_is, more_placed, open_low, ordered-same, placed_there, same_shape, store_changed, summed-same}
+use Rattle.list_words.specs.Plain.{SameFiled}
+use Rattle.list_words.proofs.StoreLaws.{filed_changed}
 use Rattle.list_words.proofs.plain_lists.PlainListsLeafLists.place.Goals as goal
 
 pub invariant_of-self : goal.invariant_of-self
@@ -60,3 +62,10 @@ returns-clause-known c =
     (known_changed (plain_of c.self.inside) c.args.list c.index_mut-row.result.now c.place.new.self low is
     (λ x some inside. subst (λ (q : PlainList). Contains (items_of q) x) (sym c.place.ensures.placed) (more_placed c.index_mut-row.result.now c.args.item x inside))
     (λ some. subst (λ (q : PlainList). 0 < length (all_chunks q)) (sym c.place.ensures.placed) some))
+
+pub returns-clause-same_filed : goal.returns-clause-same_filed
+returns-clause-same_filed c =
+    let low : c.args.list < length c.self.inside.rows.items = open_low (plain_of c.self.inside) c.args.self.now c.args.list c.self.view_is c.requires.takes in
+    let is : c.index_mut-row.result.now ≡ list_in c.self.inside.rows.items c.args.list = list_is c.self.inside.rows.items c.args.list c.index_mut-row.result.now low c.index_mut-row.ensures.value in
+    subst (λ p. SameFiled p (with_list (plain_of c.self.inside) c.args.list c.place.new.self)) c.self.view_is
+    (filed_changed (plain_of c.self.inside) c.args.list c.index_mut-row.result.now c.place.new.self low is (ap (λ (q : PlainList). q.filed) c.place.ensures.placed))

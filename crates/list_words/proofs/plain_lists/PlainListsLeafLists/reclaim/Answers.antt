@@ -21,3 +21,7 @@ returns-clause-store c = cleared_all c.args.self.now c.loop-self.self c.loop-sel
 pub returns-clause-known : goal.returns-clause-known
 returns-clause-known c = λ l x uncleared known.
     c.loop-self.invariant.known l x (λ inside. uncleared (subst (λ (xs : List ℕ). Contains (take c.loop-self.self.cleared xs) l) (sym c.loop-self.invariant.order_is) inside)) known
+
+pub returns-clause-stays : goal.returns-clause-stays
+returns-clause-stays c = λ l uncleared.
+    c.loop-self.invariant.stays l (λ inside. uncleared (subst (λ (xs : List ℕ). Contains (take c.loop-self.self.cleared xs) l) (sym c.loop-self.invariant.order_is) inside))

@@ -4,6 +4,8 @@ use Rattle.list_words.specs.PlainRows.{PlainList, items_of, roomier_list, row_of
 use Rattle.list_words.specs.Plain.{Knows, all_chunks, list_in, store_of, with_list}
 use Rattle.list_words.specs.PlainKept.{plain_of}
 use Rattle.list_words.proofs.StoreLaws.{SameShape, homed-same, known_same, list_is, ordered-same, same_shape, store_changed, summed-same, within_rows}
+use Rattle.list_words.specs.Plain.{SameFiled}
+use Rattle.list_words.proofs.StoreLaws.{filed_changed}
 use Rattle.list_words.proofs.plain_lists.PlainListsLeafLists.reserve.Goals as goal
 
 pub returns-in_err-reserve-clause-known : goal.returns-in_err-reserve-clause-known
@@ -48,3 +50,17 @@ returns-clause-known c =
     let is : c.index_mut-row.result.now ≡ list_in c.self.inside.rows.items c.args.list = list_is c.self.inside.rows.items c.args.list c.index_mut-row.result.now low c.index_mut-row.ensures.value in
     subst (λ p. Keeps (Knows p) (Knows (with_list (plain_of c.self.inside) c.args.list c.reserve.new.self))) c.self.view_is
     (known_same (plain_of c.self.inside) c.args.list c.index_mut-row.result.now c.reserve.new.self low is (ap items_of c.in_ok-reserve.ensures.ok) (ap all_chunks c.in_ok-reserve.ensures.ok))
+
+pub returns-in_err-reserve-clause-same_filed : goal.returns-in_err-reserve-clause-same_filed
+returns-in_err-reserve-clause-same_filed c =
+    let low : c.args.list < length c.self.inside.rows.items = within_rows (plain_of c.self.inside) c.args.self.now c.args.list c.self.view_is c.requires in
+    let is : c.index_mut-row.result.now ≡ list_in c.self.inside.rows.items c.args.list = list_is c.self.inside.rows.items c.args.list c.index_mut-row.result.now low c.index_mut-row.ensures.value in
+    subst (λ p. SameFiled p (with_list (plain_of c.self.inside) c.args.list c.reserve.new.self)) c.self.view_is
+    (filed_changed (plain_of c.self.inside) c.args.list c.index_mut-row.result.now c.reserve.new.self low is (ap (λ (q : PlainList). q.filed) c.in_err-reserve.ensures.err))
+
+pub returns-clause-same_filed : goal.returns-clause-same_filed
+returns-clause-same_filed c =
+    let low : c.args.list < length c.self.inside.rows.items = within_rows (plain_of c.self.inside) c.args.self.now c.args.list c.self.view_is c.requires in
+    let is : c.index_mut-row.result.now ≡ list_in c.self.inside.rows.items c.args.list = list_is c.self.inside.rows.items c.args.list c.index_mut-row.result.now low c.index_mut-row.ensures.value in
+    subst (λ p. SameFiled p (with_list (plain_of c.self.inside) c.args.list c.reserve.new.self)) c.self.view_is
+    (filed_changed (plain_of c.self.inside) c.args.list c.index_mut-row.result.now c.reserve.new.self low is (ap (λ (q : PlainList). q.filed) c.in_ok-reserve.ensures.ok))

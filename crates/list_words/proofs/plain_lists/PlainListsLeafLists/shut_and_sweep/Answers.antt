@@ -10,6 +10,8 @@ use Rattle.list_words.proofs.ChunkLaws.{summed-shut}
 use Rattle.list_words.proofs.PlainLaws.{homed-set, row-map}
 use Rattle.list_words.proofs.SeatLaws.{ordered-shut}
 use Rattle.list_words.proofs.StoreLaws.{held-le, known_same, list_is, open_low, open_phase, shut-le, shut_found, store_shut}
+use Rattle.list_words.specs.Plain.{SameFiled}
+use Rattle.list_words.proofs.StoreLaws.{filed_changed}
 use Rattle.list_words.proofs.plain_lists.PlainListsLeafLists.shut_and_sweep.Goals as goal
 
 pub overflow_add-self-2 : goal.overflow_add-self-2
@@ -128,3 +130,16 @@ returns-clause-known c =
     let is : c.index_mut-row.result.now ≡ L = list_is c.self.inside.rows.items c.args.list c.index_mut-row.result.now low c.index_mut-row.ensures.value in
     subst (λ p. Keeps (Knows p) (Knows (with_list (plain_of c.self.inside) c.args.list c.sweep.new.self))) c.self.view_is
     (known_same (plain_of c.self.inside) c.args.list c.index_mut-row.result.now c.sweep.new.self low is (ap items_of c.sweep.ensures.shut) (ap all_chunks c.sweep.ensures.shut))
+
+pub returns-clause-same_filed : goal.returns-clause-same_filed
+returns-clause-same_filed c =
+    let low : c.args.list < length c.self.inside.rows.items = open_low (plain_of c.self.inside) c.args.self.now c.args.list c.self.view_is c.requires.takes in
+    let is : c.index_mut-row.result.now ≡ list_in c.self.inside.rows.items c.args.list = list_is c.self.inside.rows.items c.args.list c.index_mut-row.result.now low c.index_mut-row.ensures.value in
+    subst (λ p. SameFiled p (with_list (plain_of c.self.inside) c.args.list c.sweep.new.self)) c.self.view_is
+    (filed_changed (plain_of c.self.inside) c.args.list c.index_mut-row.result.now c.sweep.new.self low is (ap (λ (q : PlainList). q.filed) c.sweep.ensures.shut))
+
+pub returns-clause-all : goal.returns-clause-all
+returns-clause-all c =
+    let low : c.args.list < length c.self.inside.rows.items = open_low (plain_of c.self.inside) c.args.self.now c.args.list c.self.view_is c.requires.takes in
+    let is : c.index_mut-row.result.now ≡ list_in c.self.inside.rows.items c.args.list = list_is c.self.inside.rows.items c.args.list c.index_mut-row.result.now low c.index_mut-row.ensures.value in
+    c.sweep.ensures.found ∙ ap (λ (q : PlainList). c.args.out.now.items ++ items_of q) is ∙ ap (λ (p : Plain). c.args.out.now.items ++ items_of (list_in p.lists c.args.list)) c.self.view_is

@@ -42,7 +42,7 @@ pub record AreSources (told : Option Folder) (names : List Text) (files : List S
 abbrev pub AreFilesOf : Option Folder → List Text → List Source → Type 0
 AreFilesOf told words files = (j : JobValue) → job_here words ≡ Ok j → AreSources told j.files files
 
--- a file of this name stands behind files that are all there and have points
+-- a file of this name stands behind files that are all there and not refused
 pub record IsReached (how : Reading) (files : List Source) (name : Text) : Type 0 where
   pub before : List Source
   pub content : Option (List ℕ)

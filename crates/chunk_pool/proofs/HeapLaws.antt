@@ -1,14 +1,15 @@
 -- What a push to the heap and a pop from it do to the set of its numbers.
-use Rattle.std.proofs.Common.{◌≡◌, ℕ, zero, suc, nat_lt, add-one, ◌+◌, ◌^◌, ◌<◌, ◌≤◌, inl, inr, Bool, true, false, ◌||◌, cond, List, [], ◌∷◌, length, ap, refl, sym, ◌∙◌, arith, nat_eq}
+use Rattle.std.proofs.Common.{◌≡◌, ℕ, zero, suc, nat_lt, add-one, ◌+◌, ◌^◌, ◌<◌, ◌≤◌, inl, inr, Bool, true, false, ◌||◌, cond, List, [], ◌∷◌, ◌++◌, length, ap, refl, sym, ◌∙◌, arith, nat_eq}
 use Rattle.std.specs.Prelude.{IsTrue}
 use Rattle.std.specs.Ordering.{nat_cmp, eq_by_cmp}
 use Rattle.std.specs.Cmp.{unsigned_tied}
-use Rattle.std.specs.List.{list_any}
+use Rattle.std.specs.List.{list_any, range_with_len}
 use Rattle.std.specs.BinaryHeap.{IsHeap, IsUpperBound, heap_items, heap_len, heap_capacity}
 use Rattle.std.specs.List.Sorted.{IsPermutation}
 use Rattle.std.proofs.lemmas.List.Sorted.{list_any-IsPermutation, IsPermutation-map, length_permutation}
 use Rattle.std.proofs.lemmas.Map.Keys.{ge_from_not_lt}
 use Rattle.std.proofs.lemmas.Cmp.{nat_cmp_total}
+use Rattle.std.specs.FinMap.{nat_cmp-IsAntisymmetric}
 use Rattle.std.proofs.lemmas.Bool.{cases_Bool, cases_lt, le-ltb, eq-eqb, eqb-true}
 use Rattle.std.proofs.lemmas.Bool.Decides.{nat_tests}
 use Rattle.std.specs.declared.cmp.Reverse.{Reverse}
@@ -106,22 +107,34 @@ pub record IsFilled (k n : ℕ) (items : List (Reverse ℕ)) (places : ℕ) : Ty
   pub length_is : length items ≡ k
   pub room : n ≤ places
 
+-- counting one further
+counting_more : (a n : ℕ) → range_with_len a (suc n) ≡ range_with_len a n ++ (a + n) ∷ []
+counting_more a zero = let same : a ≡ a + zero = omega arith in ap (λ m. let xs : List ℕ = m ∷ [] in xs) same
+counting_more a (suc n) =
+    let same : a + 1 + n ≡ a + suc n = omega arith in
+    ap (λ (xs : List ℕ). a ∷ xs) (counting_more (a + 1) n ∙ ap (λ m. range_with_len (a + 1) n ++ m ∷ []) same)
+
+all_below-more : (n : ℕ) → all_below (suc n) ≡ set.insert (all_below n) n
+all_below-more n =
+    let same : zero + n ≡ n = omega arith in
+    ap set.from_list (counting_more zero n) ∙ set.from_list_push nat_cmp_total nat_cmp-IsAntisymmetric (range_with_len zero n) (zero + n) ∙ ap (set.insert (all_below n)) same
+
 pub contains_all_below : (n q : ℕ) → set.contains (all_below n) q ≡ nat_lt q n
 contains_all_below zero q = set.contains-empty nat_cmp q ∙ sym (le-ltb q zero (omega arith))
 contains_all_below (suc n) q =
-    contains_inserted (all_below n) n q ∙ ap (λ b. nat_eq q n || b) (contains_all_below n q) ∙ grind (arith, nat_tests)
+    ap (λ s. set.contains s q) (all_below-more n) ∙ contains_inserted (all_below n) n q ∙ ap (λ b. nat_eq q n || b) (contains_all_below n q) ∙ grind (arith, nat_tests)
 
 pub len_all_below : (n : ℕ) → set.len (all_below n) ≡ n
 len_all_below zero = set.len-empty nat_cmp
 len_all_below (suc n) =
     let new : set.contains (all_below n) n ≡ false = contains_all_below n n ∙ le-ltb n n (omega arith) in
-    omega (arith, len_inserted (all_below n) n new, len_all_below n)
+    omega (arith, ap set.len (all_below-more n), len_inserted (all_below n) n new, len_all_below n)
 
 pub one_more : (k n : ℕ) (items items' : List (Reverse ℕ)) (room room' : ℕ) → IsFilled k n items room → IsHeap (λ (x y : Reverse ℕ). nat_cmp y.0 x.0) items' → IsPermutation (record { 0 = k } ∷ items) items' → room ≤ room' → IsFilled (k + 1) n items' room'
 one_more k n items items' room room' filled ordered same wide =
     rw add-one (record {
       ordered = ordered;
-      set_is = set_of-permutation (record { 0 = k } ∷ items) items' same ∙ ap (λ s. set.insert s k) filled.set_is;
+      set_is = set_of-permutation (record { 0 = k } ∷ items) items' same ∙ ap (λ s. set.insert s k) filled.set_is ∙ sym (all_below-more k);
       length_is = length_permutation (record { 0 = k } ∷ items) items' same ∙ ap suc filled.length_is;
       room = omega (arith, filled.room);
     })

@@ -15,6 +15,7 @@ plain items = map (λ r. r.0) items
 abbrev pub set_of : List (Reverse ℕ) → set.FinSet nat_cmp
 set_of items = set.from_list (plain items)
 
+-- the pool's size, and the set of the numbers in its heap
 abbrev pub numbers_of : Inside → Numbers
 numbers_of a = record { size = a.size; free = set_of (heap_items a.free) }
 

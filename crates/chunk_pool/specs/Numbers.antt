@@ -1,5 +1,6 @@
 -- A finite set of numbers that are free, among those below a bound.
-use Rattle.std.specs.Prelude.{ℕ, zero, suc, ◌≤◌, IsTrue, refl}
+use Rattle.std.specs.Prelude.{ℕ, ◌≤◌, IsTrue, refl}
+use Rattle.std.specs.List.{range_with_len}
 use Rattle.std.specs.Ordering.{nat_cmp}
 use Rattle.std.specs.Coded.{Coded, code_by, coded×, coded_ℕ}
 use Rattle.std.specs.FinSet as set
@@ -15,8 +16,7 @@ numbers_code = code_by (ℕ × set.FinSet nat_cmp) (coded× coded_ℕ (set.code 
 
 -- the numbers below n
 abbrev pub all_below : ℕ → set.FinSet nat_cmp
-all_below zero = set.empty
-all_below (suc n) = set.insert (all_below n) n
+all_below n = set.from_list (range_with_len 0 n)
 
 -- all numbers below n are free
 abbrev pub all_free : ℕ → Numbers

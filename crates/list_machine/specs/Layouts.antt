@@ -9,10 +9,12 @@ use Rattle.list_machine.specs.declared.views.LinkWord.TheVariants.{OfList, OfChu
 abbrev pub word_count : ℕ → ℕ → ℕ
 word_count lists chunks = lists + lists + chunks + 256 * chunks
 
+-- the place of a link word, of the list l or of a chunk
 abbrev pub link_place : ℕ → ℕ → LinkWord → ℕ
 link_place lists l OfList = lists + l
 link_place lists l (OfChunk c) = lists + lists + c
 
+-- the place of the slot k of the chunk c
 abbrev pub slot_place : ℕ → ℕ → ℕ → ℕ → ℕ
 slot_place lists chunks c k = lists + lists + chunks + (256 * c + k)
 

@@ -21,9 +21,11 @@ pub record State : Type 0 where
   pub owner : Owner
   pub guests : List Guest
 
+-- the state of these parts
 abbrev pub state : Words → Owner → List Guest → State
 state w o guests = record { words = w; owner = o; guests = guests }
 
+-- the rule holds in the state
 abbrev pub IsSound : State → Type 0
 IsSound s = Sound s.words s.owner s.guests
 

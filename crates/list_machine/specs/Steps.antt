@@ -74,16 +74,19 @@ with_fact o f = record o { facts = f ∷ o.facts }
 abbrev pub with_stage : Leaf → Stage → Leaf
 with_stage a t = record a { stage = t }
 
--- a list with a chunk more in its claimed or its owned chain, with a used slot more, or with places granted
+-- a list with a chunk more at the end of its claimed chain
 abbrev pub with_claimed : Leaf → ℕ → Leaf
 with_claimed a c = record a { claimed = a.claimed ++ c ∷ [] }
 
+-- a list with a chunk more at the end of its owned chain
 abbrev pub with_owned : Leaf → ℕ → Leaf
 with_owned a c = record a { owned = a.owned ++ c ∷ [] }
 
+-- a list with one more used slot in its owned chain
 abbrev pub with_one_used : Leaf → Leaf
 with_one_used a = record a { used = suc a.used }
 
+-- a list in which so many more places were granted
 abbrev pub with_grant : Leaf → ℕ → Leaf
 with_grant a n = record a { granted = a.granted + n }
 

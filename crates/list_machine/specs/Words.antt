@@ -14,10 +14,11 @@ word n b = record { value = n; high = b }
 abbrev pub blank : Word
 blank = word 0 false
 
--- a number of 64 bits as a word, and back
+-- the word that a number of 64 bits stands for
 abbrev pub decode : ℕ → Word
 decode n = word (n % 2 ^ 63) (nat_le (2 ^ 63) n)
 
+-- the number that stands for a word
 abbrev pub encode : Word → ℕ
 encode w = w.value + (if w.high then 2 ^ 63 else 0)
 

@@ -1,3 +1,4 @@
+pub mod BearLaws
 pub mod ChunkLaws
 pub mod FreshLaws
 pub mod GivenLaws

@@ -11,10 +11,11 @@ pub record Filing : Type 0 where
   pub left : List Grant
   pub answers : List Answer
 
--- how many slots grants give in all, and in one list
+-- how many slots grants give in all
 abbrev pub granted_in_all : List Grant → ℕ
 granted_in_all gs = sum_by (λ (g : Grant). g.n) gs
 
+-- how many slots of one list they give
 abbrev pub granted_in : ℕ → List Grant → ℕ
 granted_in list gs = sum_by (λ (g : Grant). if g.list == list then g.n else 0) gs
 
@@ -27,6 +28,7 @@ use_grant list (g ∷ gs) = if g.list == list && nat_le 1 g.n then record { list
 abbrev pub HasGrant : Filing → ℕ → Type 0
 HasGrant f list = 0 < granted_in list f.left
 
+-- the answer to a filing of the item in the list
 abbrev pub answer : ℕ → ℕ → Filed → Answer
 answer list item filed = record { list = list; item = item; filed = filed }
 

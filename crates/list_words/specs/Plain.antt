@@ -23,6 +23,7 @@ pub record Plain : Type 0 where
   pub items_room : ℕ
   pub given : ℕ
 
+-- the list of a number, which past the lists was never opened
 abbrev pub list_in : List PlainList → ℕ → PlainList
 list_in lists l = slice_index_or lists l no_list
 
@@ -50,18 +51,21 @@ SameFiled p q = (l : ℕ) → (list_in q.lists l).filed ≡ (list_in p.lists l).
 abbrev pub seat_of : PlainReader → Seat
 seat_of r = record { name = []; birth = r.birth }
 
+-- the lists with this one in the place of the list l
 abbrev pub with_list : Plain → ℕ → PlainList → Plain
 with_list p l b = record p { lists = slice_set p.lists l b }
 
 -- ---- slots
 
--- one of the two chains of a list, and the items in its slots in order
+-- one of the two chains of a list
 abbrev pub chain : Bool → PlainList → List ℕ
 chain owned p = if owned then p.owned else p.claimed
 
+-- the items in the slots of that chain, in order
 abbrev pub chain_items : Bool → PlainList → List ℕ
 chain_items owned p = if owned then p.placed else p.filed
 
+-- the chunk of rank r in that chain of the list l
 abbrev pub chunk_at : List PlainList → Bool → ℕ → ℕ → Option ℕ
 chunk_at lists owned l r = slice_get (chain owned (list_in lists l)) r
 
@@ -83,6 +87,7 @@ pub record StandsAt (p : PlainList) (item c i : ℕ) : Type 0 where
   pub within : i < 256
   pub stands : slice_get p.filed (256 * rank + i) ≡ Some item
 
+-- the answer to a filing of the item is borne out: the item stands where it says, or the list is shut
 abbrev pub Bears : PlainList → ℕ → Filed → Type 0
 Bears p item (At c i) = StandsAt p item c i
 Bears p item (Late seen) = p.phase ≡ Shut
@@ -94,18 +99,22 @@ pub record BearsOut (p : Plain) (f : Filing) : Type 0 where
 
 -- ---- sums over lists
 
+-- how many chunks a list has in both chains
 abbrev pub chunk_count : PlainList → ℕ
 chunk_count p = length p.claimed + length p.owned
 
+-- how many of them are held, since the list is shut; a cleared list has none
 abbrev pub held_chunks : PlainList → ℕ
 held_chunks p = if is_shut p.phase then chunk_count p else 0
 
+-- 1 for a shut list
 abbrev pub shut_count : PlainList → ℕ
 shut_count p = if is_shut p.phase then 1 else 0
 
--- the first list that is not cleared is cleared
+-- the first shut list that is not cleared
 abbrev pub next_list : Plain → ℕ
 next_list p = slice_index p.order p.cleared
 
+-- that list is cleared: it has no chunks and no items, and its chunks are free
 abbrev pub next_cleared : Plain → Plain
 next_cleared p = record p { lists = slice_set p.lists (next_list p) (emptied_list (list_in p.lists (next_list p))); free = p.free + chunk_count (list_in p.lists (next_list p)); cleared = suc p.cleared }

@@ -9,6 +9,7 @@ use Rattle.list_words.specs.declared.leaf_lists.Phase.TheVariants.{Shut}
 use Rattle.list_words.specs.declared.plain_homes.Home.{Home}
 use Rattle.list_words.specs.declared.plain_lists.PlainLists.TheInside.{Inside}
 
+-- the home of the chunk of rank r in one of the chains of the list l
 abbrev pub home_of : ℕ → Bool → ℕ → Home
 home_of l owned r = record { list = l; owned = owned; rank = r }
 
@@ -32,6 +33,7 @@ pub record AreOrdered (lists : List PlainList) (order : List ℕ) (cleared : ℕ
   pub past : (b : ℕ) → b < cleared → slice_index out b ≡ 0
   pub seats : seat_count ≡ sum out
 
+-- what contracts see of lists over vectors
 abbrev pub plain_of : Inside → Plain
 plain_of a = record { lists = a.rows.items; chunks = a.pool.size; free = set.len a.pool.free; order = a.order.items; cleared = a.cleared; out = a.out.items; grants_room = a.grants_room; items_room = a.items_room; given = a.given }
 

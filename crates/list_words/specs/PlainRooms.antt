@@ -5,6 +5,7 @@ use Rattle.list_words.specs.declared.leaf_lists.Phase.TheVariants.{Fresh, Shut}
 use Rattle.list_words.specs.declared.plain_row.PlainRow.TheInside.{Inside}
 use Rattle.list_words.specs.PlainRows.{PlainList}
 
+-- what contracts see of a list over vectors
 abbrev pub list_of : Inside → PlainList
 list_of a = record { phase = a.phase; claimed = a.claimed.items; filed = a.filed.items; owned = a.owned.items; placed = a.placed.items; granted = a.granted; claimed_room = a.claimed_room; owned_room = a.owned_room }
 

@@ -34,6 +34,7 @@ pub record Store : Type 0 where
   pub items_room : ℕ
   pub given : ℕ
 
+-- the row of a list that was never opened
 abbrev pub no_row : Row
 no_row = record { phase = Fresh; claimed = []; owned = []; granted = 0; placed = []; marked = []; claimed_room = 0; owned_room = 0 }
 
@@ -41,12 +42,15 @@ no_row = record { phase = Fresh; claimed = []; owned = []; granted = 0; placed =
 abbrev pub row_in : List Row → ℕ → Row
 row_in rows l = slice_index_or rows l no_row
 
+-- the row of a list of the store
 abbrev pub row : Store → ℕ → Row
 row s l = row_in s.rows l
 
+-- the list takes items
 abbrev pub IsOpen : Store → ℕ → Type 0
 IsOpen s l = (row s l).phase ≡ Open
 
+-- the list was shut
 abbrev pub IsShut : Store → ℕ → Type 0
 IsShut s l = (row s l).phase ≡ Shut
 
@@ -64,30 +68,39 @@ found_in r = filter_map (λ x. x) r.marked ++ r.placed
 
 -- ---- one list changes
 
+-- the lists with this row for the list l
 abbrev pub with_row : Store → ℕ → Row → Store
 with_row s l r = record s { rows = slice_set s.rows l r }
 
+-- there is room for at least so many more chunks in each chain
 abbrev pub roomier : Row → ℕ → ℕ → Row
 roomier r claimed owned = record r { claimed_room = max r.claimed_room claimed; owned_room = max r.owned_room owned }
 
+-- the list takes items, and has two empty chains
 abbrev pub opened : Row → Row
 opened r = record r { phase = Open; claimed = []; owned = []; granted = 0; placed = []; marked = [] }
 
+-- a chunk stands at the end of the claimed chain
 abbrev pub linked : Row → ℕ → Row
 linked r c = record r { claimed = r.claimed ++ c ∷ []; claimed_room = r.claimed_room - 1 }
 
+-- a chunk stands at the end of the owned chain
 abbrev pub lengthened : Row → ℕ → Row
 lengthened r c = record r { owned = r.owned ++ c ∷ []; owned_room = r.owned_room - 1 }
 
+-- an item stands in the next owned slot
 abbrev pub placed_in : Row → ℕ → Row
 placed_in r item = record r { placed = r.placed ++ item ∷ [] }
 
+-- so many more claimed slots were granted
 abbrev pub more_granted : Row → ℕ → Row
 more_granted r n = record r { granted = r.granted + n }
 
+-- the list was shut, and this is what its marks found in the claimed slots
 abbrev pub shut_with : Row → List (Option ℕ) → Row
 shut_with r marked = record r { phase = Shut; marked = marked }
 
+-- the list was cleared
 abbrev pub emptied : Row → Row
 emptied r = record r { claimed = []; owned = []; placed = []; marked = []; claimed_room = 0; owned_room = 0 }
 
@@ -109,19 +122,23 @@ birth_now s = length s.order
 abbrev pub seats_out : Store → ℕ
 seats_out s = sum s.out
 
+-- the counts with one more of a birth
 abbrev pub counted : List ℕ → ℕ → List ℕ
 counted out birth = slice_set out birth (slice_index out birth + 1)
 
+-- the counts with one less of a birth, or as they are where nobody of that birth is out
 abbrev pub counted_off : List ℕ → ℕ → List ℕ
 counted_off out birth = slice_set out birth (slice_index out birth - 1)
 
--- one more that was born now, and one less of a birth
+-- one more is out, who was born now
 abbrev pub one_more : Store → Store
 one_more s = record s { out = counted s.out (birth_now s) }
 
+-- one less of a birth is out
 abbrev pub one_less : Store → ℕ → Store
 one_less s birth = record s { out = counted_off s.out birth }
 
+-- there is room for a filer with at least so many grants and answers
 abbrev pub with_filer_room : Store → ℕ → ℕ → Store
 with_filer_room s grants items = record s { grants_room = max s.grants_room grants; items_room = max s.items_room items }
 
@@ -145,15 +162,17 @@ pub record MayAdmit (s : Store) (gs : List Grant) : Type 0 where
 
 -- ---- clearing
 
--- how many chunks of a list are held: those of a shut list that is not cleared, since a cleared one has none
+-- whether a list at this phase was shut
 abbrev pub is_shut : Phase → Bool
 is_shut Fresh = false
 is_shut Open = false
 is_shut Shut = true
 
+-- how many chunks of a list are held: those of a shut list that is not cleared, since a cleared one has none
 abbrev pub held_in : Row → ℕ
 held_in r = if is_shut r.phase then length (chunks_of r) else 0
 
+-- how many chunks of all lists are held
 abbrev pub held_of : Store → ℕ
 held_of s = sum_by held_in s.rows
 

@@ -24,6 +24,9 @@ use std::alloc::{AllocError, Global};
 use std::marker::Model;
 use std::mem;
 
+#[cfg(test)]
+mod parts;
+
 /// Lists over vectors, for one thread. Contracts see the lists with their items, and what is counted of them.
 #[derive(Drop)]
 pub struct PlainLists {
@@ -123,7 +126,7 @@ impl PlainLists {
 
     /// Whether the slot or claim word that the answer names bears it out.
     fn bears(&self, answer: &Answer) -> bool
-        ensures { IsTrue result → Bears (list_in self.now.lists answer.now.list) answer.now.item answer.now.filed }
+        ensures { IsTrue result ↔ Bears (list_in self.now.lists answer.now.list) answer.now.item answer.now.filed }
     {
         let Some(row) = self.rows.get(answer.list as usize) else {
             return false;
@@ -321,8 +324,10 @@ impl LeafLists for PlainLists {
         PlainFiler::new(birth as u32, kept, answers)
     }
 
+    /// True exactly where somebody with the filer's birth is out, and each answer of the filer is borne out by the
+    /// slot or claim word that it names.
     fn vouches(&self, filer: &PlainFiler) -> bool
-        ensures { IsTrue result → BearsOut self.now filer.now }
+        ensures { IsTrue result ↔ BearsOut self.now filer.now }
     {
         if !is_counted(&self.out, filer.birth()) {
             return false;

@@ -1,4 +1,4 @@
-ghost use Rattle.std.specs.Prelude.{◌≡◌, ℕ, ◌+◌, ◌*◌, ◌/◌, ◌%◌, ◌^◌, ◌<◌, ◌≤◌, [], ◌∷◌, ◌++◌, Some, length, slice_get, OnOk, OnErr, IsTrue, vec_len};
+ghost use Rattle.std.specs.Prelude.{◌≡◌, ℕ, ◌+◌, ◌*◌, ◌/◌, ◌%◌, ◌^◌, ◌<◌, ◌≤◌, ◌↔◌, [], ◌∷◌, ◌++◌, Some, length, slice_get, OnOk, OnErr, IsTrue, vec_len};
 ghost use Rattle.std.specs.Vec.{vec_capacity};
 ghost use Rattle.list_machine.specs.Words.{decode};
 ghost use Rattle.list_words.specs.Plain.{chain, slot_word, word_with};
@@ -11,6 +11,9 @@ ghost use Rattle.list_words.specs.declared.leaf_lists.Phase.TheVariants.{Fresh, 
 use crate::{Filed, Phase, Seen, file, mark};
 use std::alloc::{AllocError, Global};
 use std::marker::Model;
+
+#[cfg(test)]
+mod parts;
 
 /// How many slots a chunk has.
 pub const SLOTS: usize = 256;
@@ -176,7 +179,7 @@ impl PlainRow {
 
     /// Whether the chunk has this rank in the claimed chain, and the item stands in its slot.
     pub fn has_filed(&self, rank: u32, chunk: u32, slot: u32, item: u32) -> bool
-        ensures { IsTrue result → (slice_get self.now.claimed rank ≡ Some chunk) × (slot < 256) × (slice_get self.now.filed (256 * rank + slot) ≡ Some item) }
+        ensures { IsTrue result ↔ ((slice_get self.now.claimed rank ≡ Some chunk) × (slot < 256) × (slice_get self.now.filed (256 * rank + slot) ≡ Some item)) }
     {
         let Some(found) = self.claimed.get(rank as usize) else {
             return false;

@@ -2,6 +2,12 @@ ghost use Rattle.std.specs.Prelude.{◌≡◌, ℕ, ◌+◌, ◌*◌, ◌<◌, �
 ghost use Rattle.std.specs.Vec.{vec_capacity};
 ghost use Rattle.list_words.specs.Store.{IsOpen, MayAdmit, chunks_of, row};
 
+mod conditions;
+mod held;
+mod random_order;
+mod slow_lists;
+mod walks;
+
 use crate::{Grant, LeafLists, PlainLists};
 use std::test::Fail;
 

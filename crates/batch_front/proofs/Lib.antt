@@ -5,4 +5,5 @@ pub mod Numbers
 pub mod Opening
 pub mod Passing
 pub mod Turning
+pub mod Sent
 pub mod Telling

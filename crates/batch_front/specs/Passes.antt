@@ -77,6 +77,7 @@ module _ {S : Type 0} where
   first_mine [] = []
   first_mine (c ∷ cs) = c.mine
 
+  -- what a pass is whose seat has this view
   abbrev pub pass_value : FrontValue S → ℕ → View S → PassValue S
   pass_value front number v = record { front = front; number = number; seen = first_seen v.cards; mine = first_mine v.cards; turn = turn_of v.place }
 

@@ -46,6 +46,7 @@ module _ {S : Type 0} where
   abbrev pub weight : (ℕ → ℕ) → View S → ℕ
   weight h v = total (λ (c : Card S). h c.number) v.cards
 
+  -- a card with these fields
   abbrev pub card : S → ℕ → Record → List Event → Card S
   card site number seen mine = record { site = site; number = number; seen = seen; mine = mine }
 
@@ -53,6 +54,7 @@ module _ {S : Type 0} where
   abbrev pub pass_view : Card S → Place → View S
   pass_view c place = record { cards = c ∷ []; told = []; place = place }
 
+  -- the card of a pass that has done nothing
   abbrev pub new_card : S → ℕ → Card S
   new_card site number = card site number [] []
 
@@ -60,6 +62,7 @@ module _ {S : Type 0} where
   abbrev pub hand_view : S → List ℕ → View S
   hand_view site numbers = record { cards = map (new_card site) numbers; told = []; place = Away }
 
+  -- of a seat with the new cards of all numbers below the count
   abbrev pub first_view : S → ℕ → View S
   first_view site count = hand_view site (range_with_len 0 count)
 
@@ -67,9 +70,11 @@ module _ {S : Type 0} where
   abbrev pub news_view : Record → View S
   news_view told = record { cards = []; told = told; place = Away }
 
+  -- of a seat that knows nothing
   abbrev pub blank : View S
   blank = news_view []
 
+  -- it stands there now
   abbrev pub placed : View S → Place → View S
   placed v place = record { cards = v.cards; told = v.told; place = place }
 
@@ -85,10 +90,12 @@ module _ {S : Type 0} where
   abbrev pub comparing : View S → View S
   comparing v = record { cards = map (λ (c : Card S). card c.site c.number (longer c.seen v.told) c.mine) v.cards; told = []; place = v.place }
 
+  -- the first card alone, where there is one
   abbrev pub first_cards : List (Card S) → List (Card S)
   first_cards [] = []
   first_cards (c ∷ cs) = c ∷ []
 
+  -- the cards behind the first
   abbrev pub other_cards : List (Card S) → List (Card S)
   other_cards [] = []
   other_cards (c ∷ cs) = cs
@@ -98,18 +105,23 @@ module _ {S : Type 0} where
   first_seen [] = []
   first_seen (c ∷ cs) = c.seen
 
+  -- what is left of a seat that dealt its first card
   abbrev pub dealer : View S → View S
   dealer v = record { cards = other_cards v.cards; told = v.told; place = v.place }
 
+  -- the first card of a seat, as a pass that stands away
   abbrev pub dealt : View S → View S
   dealt v = record { cards = first_cards v.cards; told = []; place = Away }
 
+  -- news of what the first card of a seat has seen
   abbrev pub teller : View S → View S
   teller v = news_view (first_seen v.cards)
 
+  -- a seat that heard the news of another
   abbrev pub hearer : View S → View S → View S
   hearer v w = record { cards = v.cards; told = w.told; place = v.place }
 
+  -- a seat with the cards of another behind its own
   abbrev pub gatherer : View S → View S → View S
   gatherer v w = record { cards = v.cards ++ w.cards; told = v.told; place = v.place }
 
@@ -179,9 +191,11 @@ module _ {S : Type 0} {V : Type 0} where
       → (r ≡ t % 18446744073709551616 → (x : V) × Each (Stands (record_of x) (site_of x)) m.0.cards × (n ≡ (seeing m.0 (record_of x) (Holds t), (0, Some x) ∷ m.1)))
       × (r ≢ t % 18446744073709551616 → n ≡ m)
 
+  -- the event was added, and what the seat has taken is as before
   abbrev pub Committed : Event → Step (Option V) → Sat S V → ℕ → Sat S V → Type 0
   Committed e st m r n = n ≡ (adding m.0 e, m.1)
 
+  -- it stands away, and has taken nothing
   abbrev pub Left : Step (Option V) → Sat S V → ℕ → Sat S V → Type 0
   Left st m r n = n ≡ (placed m.0 Away, [])
 

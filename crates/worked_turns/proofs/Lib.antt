@@ -1,0 +1,3 @@
+pub mod Home
+pub mod Rows
+pub mod Sent

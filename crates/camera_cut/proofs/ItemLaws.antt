@@ -11,7 +11,7 @@ use Rattle.picture_model.specs.Cameras.{CameraValue, refines}
 use Rattle.picture_model.specs.Cuts.{begins, opens, hides}
 use Rattle.picture_model.specs.Items.{ItemValue, Shown, ShownAt, point_item, voxel_item, children_shown, tree_shown, node_shown, shown_at, items}
 use Rattle.octree_model.specs.Numbers.{up_to}
-use Rattle.octree_model.specs.Octree.{inside, octree_at}
+use Rattle.octree_model.specs.Octree.{inside, octree, octree_at}
 use Rattle.octree_model.specs.Outlines.{OutlineAt, children_outline, outline_at}
 use Rattle.octree_model.specs.Shapes.{IsOctreeIn}
 use Rattle.octree_model.specs.Voxels.{voxels}
@@ -161,7 +161,10 @@ tree_is_seen camera leaf (suc depth) c ps =
     ]
 
 -- what is seen on the way down an octree are the items of its cut
-pub items_seen : (camera : CameraValue) (t : Tree) (c : CubeValue) → IsOctreeIn c t → items camera t c ≡ seen_in camera t c
-items_seen camera t c o =
-    let whole : IsSeen camera t = subst (IsSeen camera) (sym o.is) (tree_is_seen camera o.leaf (c.bits - 7) c o.points) in
+pub octree_seen : (camera : CameraValue) (leaf : ℕ) (c : CubeValue) (ps : List PointValue) → items camera (octree leaf c ps) c ≡ seen_in camera (octree leaf c ps) c
+octree_seen camera leaf c ps =
+    let whole : IsSeen camera (octree leaf c ps) = tree_is_seen camera leaf (c.bits - 7) c ps in
     whole.seen [] c (λ n. false) (λ n b. refl)
+
+pub items_seen : (camera : CameraValue) (t : Tree) (c : CubeValue) → IsOctreeIn c t → items camera t c ≡ seen_in camera t c
+items_seen camera t c o = subst (λ (u : Tree). items camera u c ≡ seen_in camera u c) (sym o.is) (octree_seen camera o.leaf c o.points)

@@ -6,3 +6,4 @@ mod Examples
 pub mod NumberLaws
 pub mod OctreeLaws
 pub mod SameBagLaws
+pub mod ShapeLaws

@@ -19,46 +19,49 @@ use Rattle.octree_model.specs.declared.tree.Tree.TheVariants.{Leaf, Inner, rolls
 use Rattle.octree_model.specs.declared.tree.InnerNode.{InnerNode}
 use Rattle.octree_model.proofs.FilterLaws.{filter_same, ascending_by_filter}
 
--- ---- counts of tests
-count_first : (t : PointValue → Bool) (p : PointValue) (ps : List PointValue) → count_by t (p ∷ ps) ≡ cond (t p) 1 0 + count_by t ps
-count_first t p ps = omega (arith, sum_by-append (λ x. cond (t x) 1 0) (p ∷ []) ps)
+-- ---- lists with the same elements, each as often: as many pass each test
+abbrev pub Same : {X : Type 0} → List X → List X → Type 0
+Same {X} xs ys = (test : X → Bool) → count_by test xs ≡ count_by test ys
+
+count_first : {X : Type 0} (t : X → Bool) (x : X) (xs : List X) → count_by t (x ∷ xs) ≡ cond (t x) 1 0 + count_by t xs
+count_first t x xs = omega (arith, sum_by-append (λ y. cond (t y) 1 0) (x ∷ []) xs)
 
 count_in : (a b : Bool) (n m : ℕ) (rest : ℕ) → n ≡ rest → cond (a && b) 1 0 + rest ≡ m → cond a (cond b 1 0 + n) n ≡ m
 count_in true b n m rest e f = ap (λ k. cond b 1 0 + k) e ∙ f
 count_in false b n m rest e f = omega arith
 
 -- a filter joins its test
-count_by-filter : (t keep : PointValue → Bool) (ps : List PointValue) → count_by t (filter keep ps) ≡ count_by (λ p. keep p && t p) ps
+count_by-filter : {X : Type 0} (t keep : X → Bool) (xs : List X) → count_by t (filter keep xs) ≡ count_by (λ x. keep x && t x) xs
 count_by-filter t keep [] = refl
-count_by-filter t keep (p ∷ ps) =
-    split (keep p) (filter keep ps) ∙ count_in (keep p) (t p) (count_by t (filter keep ps)) _ (count_by (λ q. keep q && t q) ps) (count_by-filter t keep ps) (sym (count_first (λ q. keep q && t q) p ps))
+count_by-filter {X} t keep (x ∷ xs) =
+    split (keep x) (filter keep xs) ∙ count_in (keep x) (t x) (count_by t (filter keep xs)) _ (count_by (λ y. keep y && t y) xs) (count_by-filter t keep xs) (sym (count_first (λ y. keep y && t y) x xs))
   where
-    split : (b : Bool) (qs : List PointValue) → count_by t (cond b (p ∷ qs) qs) ≡ cond b (cond (t p) 1 0 + count_by t qs) (count_by t qs)
-    split true qs = count_first t p qs
-    split false qs = refl
+    split : (b : Bool) (ys : List X) → count_by t (cond b (x ∷ ys) ys) ≡ cond b (cond (t x) 1 0 + count_by t ys) (count_by t ys)
+    split true ys = count_first t x ys
+    split false ys = refl
 
 -- the part of a bag that passes a test
-same_filter : (keep : PointValue → Bool) (ps qs : List PointValue) → IsSameBag ps qs → IsSameBag (filter keep ps) (filter keep qs)
-same_filter keep ps qs same test = count_by-filter test keep ps ∙ same (λ p. keep p && test p) ∙ sym (count_by-filter test keep qs)
+pub same_filter : {X : Type 0} (keep : X → Bool) (xs ys : List X) → Same xs ys → Same (filter keep xs) (filter keep ys)
+same_filter keep xs ys same test = count_by-filter test keep xs ∙ same (λ x. keep x && test x) ∙ sym (count_by-filter test keep ys)
 
 count_all : (ps : List PointValue) → count_by (λ p. true) ps ≡ length ps
 count_all [] = refl
 count_all (p ∷ ps) = let rest : count_by (λ q. true) ps ≡ length ps = count_all ps in omega (arith, count_first (λ q. true) p ps)
 
-same_length : (ps qs : List PointValue) → IsSameBag ps qs → length ps ≡ length qs
+pub same_length : (ps qs : List PointValue) → IsSameBag ps qs → length ps ≡ length qs
 same_length ps qs same = sym (count_all ps) ∙ same (λ p. true) ∙ count_all qs
 
--- ---- numbers of points: a number stands in a list of them where a point has it
+-- ---- numbers of elements: a number stands in a list of them where an element has it
 some_or : (b : Bool) (n : ℕ) → (b || nat_lt 0 n) ≡ nat_lt 0 (cond b 1 0 + n)
 some_or true n = sym (lt-ltb _ _ (omega arith))
 some_or false n = let same : n ≡ 0 + n = omega arith in ap (nat_lt 0) same
 
-has-map : (z : ℕ) (f : PointValue → ℕ) (ps : List PointValue) → has z (map f ps) ≡ nat_lt 0 (count_by (λ p. nat_eq z (f p)) ps)
+has-map : {X : Type 0} (z : ℕ) (f : X → ℕ) (xs : List X) → has z (map f xs) ≡ nat_lt 0 (count_by (λ x. nat_eq z (f x)) xs)
 has-map z f [] = refl
-has-map z f (p ∷ ps) = ap (λ b. nat_eq z (f p) || b) (has-map z f ps) ∙ some_or (nat_eq z (f p)) (count_by (λ q. nat_eq z (f q)) ps) ∙ ap (nat_lt 0) (sym (count_first (λ q. nat_eq z (f q)) p ps))
+has-map z f (x ∷ xs) = ap (λ b. nat_eq z (f x) || b) (has-map z f xs) ∙ some_or (nat_eq z (f x)) (count_by (λ y. nat_eq z (f y)) xs) ∙ ap (nat_lt 0) (sym (count_first (λ y. nat_eq z (f y)) x xs))
 
-same_numbers : (f : PointValue → ℕ) (ps qs : List PointValue) → IsSameBag ps qs → (z : ℕ) → has z (map f ps) ≡ has z (map f qs)
-same_numbers f ps qs same z = has-map z f ps ∙ ap (nat_lt 0) (same (λ p. nat_eq z (f p))) ∙ sym (has-map z f qs)
+pub same_numbers : {X : Type 0} (f : X → ℕ) (xs ys : List X) → Same xs ys → (z : ℕ) → has z (map f xs) ≡ has z (map f ys)
+same_numbers f xs ys same z = has-map z f xs ∙ ap (nat_lt 0) (same (λ x. nat_eq z (f x))) ∙ sym (has-map z f ys)
 
 -- ---- lists with the same numbers
 -- a number above all of a list
@@ -112,7 +115,7 @@ is_least n (m ∷ ns) =
 no_number : (m : ℕ) (ms : List ℕ) → has m [] ≡ has m (m ∷ ms) → ⊥
 no_number m ms e = let no : false ≡ true = e ∙ ap (λ b. b || has m ms) (eq-eqb m m refl) in cc
 
-same_least : (ns ms : List ℕ) → ((z : ℕ) → has z ns ≡ has z ms) → least ns ≡ least ms
+pub same_least : (ns ms : List ℕ) → ((z : ℕ) → has z ns ≡ has z ms) → least ns ≡ least ms
 same_least [] [] same = refl
 same_least [] (m ∷ ms) same = absurd (no_number m ms (same m))
 same_least (n ∷ ns) [] same = absurd (no_number n ns (sym (same n)))

@@ -1,8 +1,8 @@
 pub mod Children
+pub mod DescentLaws
 pub mod FittingLaws
 pub mod ListingLaws
 pub mod Nearest
 pub mod NodeLaws
-pub mod ShapeLaws
-pub mod Spread
+pub mod SpreadLaws
 pub mod Words

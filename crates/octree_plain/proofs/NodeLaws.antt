@@ -17,7 +17,7 @@ use Rattle.octree_model.specs.declared.tree.InnerNode.{InnerNode}
 use Rattle.octree_model.proofs.BagLaws.{same_points, leaf_points-Inner}
 use Rattle.octree_model.proofs.CountLaws.{nodes-Leaf, nodes-Inner}
 use Rattle.octree_model.proofs.NumberLaws.{length-up_to}
-use Rattle.octree_plain.proofs.ShapeLaws.{IsNodeOf, node_of, few_inside}
+use Rattle.octree_model.proofs.ShapeLaws.{IsNodeOf, node_of, few_inside}
 
 -- a test that always passes counts all
 all_counted : (ps : List PointValue) → count_by (λ p. true) ps ≡ length ps

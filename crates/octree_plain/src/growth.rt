@@ -63,7 +63,7 @@ fn grow(
 }
 
 /// The points of each child, in the order of the children.
-fn spread(alloc: Global, cube: &Cube, points: &[Point]) -> Result<Vec<Vec<Point>>, AllocError>
+pub fn spread(alloc: Global, cube: &Cube, points: &[Point]) -> Result<Vec<Vec<Point>>, AllocError>
     requires contained { All (λ p. IsTrue (contains cube.now p)) points.now }
     requires splits { 7 < cube.now.bits }
     ensures { IfOk result (λ lists. map vec_items lists.items ≡ map (λ g. inside (child cube.now g) points.now) (up_to 8)) }

@@ -19,7 +19,7 @@ mod sampling;
 pub use bounds::bounds_text;
 pub use count::node_count;
 pub use fitting::{Span, fit_cube};
-pub use growth::{build, build_from};
+pub use growth::{build, build_from, spread};
 pub use listing::nodes_text;
 pub use octree_model::{InnerNode, OutlineNode, Points, Tree, Voxel};
 pub use outlines::outline;

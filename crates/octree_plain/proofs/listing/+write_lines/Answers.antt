@@ -2,7 +2,7 @@ use Rattle.std.proofs.Common.{◌≡◌, ℕ, ◌<◌, ◌∙◌, length, get_or
 use Rattle.std.proofs.lemmas.List.{length_push}
 use Rattle.octree_model.specs.declared.tree.Tree.{Tree}
 use Rattle.octree_plain.specs.Descent.{IsOctreeBelow}
-use Rattle.octree_plain.proofs.ShapeLaws.{IsInnerBelow, inner_below}
+use Rattle.octree_plain.proofs.DescentLaws.{IsInnerBelow, inner_below}
 use Rattle.octree_plain.proofs.ListingLaws.{leaf_written}
 use Rattle.octree_plain.proofs.listing.+write_lines.Goals as goal
 

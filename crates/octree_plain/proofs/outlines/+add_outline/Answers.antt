@@ -3,7 +3,7 @@ use Rattle.octree_model.specs.Shapes.{IsOctreeIn}
 use Rattle.octree_model.specs.declared.tree.Tree.{Tree}
 use Rattle.cube_math.specs.Cubes.{CubeValue}
 use Rattle.std.proofs.lemmas.List.{length_push}
-use Rattle.octree_plain.proofs.ShapeLaws.{IsInnerIn, inner_in}
+use Rattle.octree_model.proofs.ShapeLaws.{IsInnerIn, inner_in}
 use Rattle.octree_plain.proofs.outlines.+add_outline.Goals as goal
 
 pub overflow_cast-octant : goal.overflow_cast-octant

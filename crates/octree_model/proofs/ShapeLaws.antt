@@ -1,7 +1,7 @@
 -- The way down an octree: what an inner node is, and that the trees below it are octrees in the child cubes.
-use Rattle.std.proofs.Common.{◌≡◌, ℕ, zero, suc, ◌-◌, ◌<◌, ◌≤◌, ◌^◌, List, map, length, get_or, ap, ◌∙◌, sym, arith, inl, inr, refl, subst, ◌++◌, ◌∷◌, []}
+use Rattle.std.proofs.Common.{◌≡◌, ℕ, zero, suc, ◌-◌, ◌<◌, ◌≤◌, ◌^◌, List, map, length, get_or, ap, ◌∙◌, sym, arith, inl, inr, refl, subst}
 use Rattle.std.proofs.lemmas.Bool.{cases_lt, le-leb, lt-leb}
-use Rattle.std.proofs.lemmas.List.{length-map, length_push}
+use Rattle.std.proofs.lemmas.List.{length-map}
 use Rattle.std.proofs.lemmas.List.Sums.{length-filter, count_by-le-length}
 use Rattle.cube_math.specs.Points.{PointValue}
 use Rattle.cube_math.specs.Cubes.{CubeValue, contains, child}
@@ -14,7 +14,6 @@ use Rattle.octree_model.specs.declared.tree.Tree.TheOpen.{Tree-F}
 use Rattle.octree_model.specs.declared.tree.Tree.TheVariants.{Leaf, Inner, rolls-Leaf, rolls-Inner}
 use Rattle.octree_model.specs.declared.tree.InnerNode.{InnerNode}
 use Rattle.octree_model.proofs.NumberLaws.{at_up_to, length-up_to}
-use Rattle.octree_plain.specs.Descent.{IsOctreeBelow}
 
 out-Leaf : (ps : List PointValue) → out-Tree (Leaf ps) ≡ Tree-F.Leaf ps
 out-Leaf ps = ap out-Tree (sym (rolls-Leaf ps)) ∙ out-roll-Tree (Tree-F.Leaf ps)
@@ -77,7 +76,7 @@ child_of c leaf ps n g t node here is =
       is = is ∙ ap (λ (ts : List Tree). get_or ts g t) node.trees ∙ at_up_to (λ k. octree leaf (child c k) ps) 8 g t low;
     }
 
--- what the way down needs at an inner node: of its cube
+-- what the way down needs of an inner node, by its cube
 pub record IsInnerIn (cube : CubeValue) (n : InnerNode) : Type 0 where
   pub splits : 7 < cube.bits
   pub eight : length n.trees ≡ 8
@@ -92,23 +91,4 @@ inner_in cube t n octree is =
       splits = node.splits;
       eight = all;
       below = λ g u low at. child_of cube o.leaf (inside cube o.points) n g u node (omega arith) at;
-    }
-
--- and of its path
-pub record IsInnerBelow (path : List ℕ) (n : InnerNode) : Type 0 where
-  pub room : length path < 24
-  pub eight : length n.trees ≡ 8
-  pub below : (g : ℕ) (t : Tree) → g < 8 → t ≡ get_or n.trees g t → IsOctreeBelow (path ++ g ∷ []) t
-
-pub inner_below : (path : List ℕ) (t : Tree) (n : InnerNode) → IsOctreeBelow path t → t ≡ Inner n → IsInnerBelow path n
-inner_below path t n b is =
-    let inner : IsInnerIn b.cube n = inner_in b.cube t n b.octree is in
-    record {
-      room = omega (arith, inner.splits, b.room);
-      eight = inner.eight;
-      below = λ g u low at. record {
-        cube = child b.cube g;
-        octree = inner.below g u low at;
-        room = omega (arith, inner.splits, b.room, length_push path g);
-      };
     }

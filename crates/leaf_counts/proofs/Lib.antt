@@ -1,0 +1,13 @@
+pub mod BagCounts
+pub mod CommitLaws
+pub mod CountLaws
+pub mod GrowLaws
+pub mod GrowthLaws
+pub mod NewLaws
+pub mod NodeLaws
+pub mod OverfullLaws
+pub mod PathLaws
+pub mod PlanLaws
+pub mod SplitLaws
+pub mod TotalLaws
+pub mod WayLaws

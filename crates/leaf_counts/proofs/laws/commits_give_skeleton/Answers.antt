@@ -1,0 +1,6 @@
+use Rattle.std.proofs.Common.{[]}
+use Rattle.leaf_counts.proofs.CommitLaws.{commits_are}
+use Rattle.leaf_counts.proofs.laws.commits_give_skeleton.Goals as goal
+
+pub returns : goal.returns
+returns c = λ commits due. commits_are c.args.leaf c.args.cube.now [] commits due

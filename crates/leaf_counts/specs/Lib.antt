@@ -1,0 +1,9 @@
+pub mod Descent
+pub mod Growing
+pub mod Growths
+pub mod Laws
+pub mod Nodes
+pub mod Overfull
+pub mod Paths
+pub mod Plans
+pub mod Skeletons

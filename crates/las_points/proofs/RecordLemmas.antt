@@ -1,10 +1,11 @@
 -- The records of the points, one after the other.
-use Rattle.std.proofs.Common.{◌≡◌, ◌≤◌, ◌<◌, ℕ, suc, ◌+◌, ◌*◌, ◌/◌, ◌%◌, List, [], ◌∷◌, ◌++◌, slice_index, Option, Some, None, refl, arith, add-one}
+use Rattle.std.proofs.Common.{◌≡◌, ◌≤◌, ◌<◌, ℕ, suc, ◌+◌, ◌*◌, ◌/◌, ◌%◌, List, [], ◌∷◌, ◌++◌, slice_index, Option, Some, None, refl, arith, ap, sym, ◌∙◌}
+use Rattle.std.proofs.lemmas.List.FromFn.{map-range_with_len_more}
 use Rattle.std.proofs.Math.Nat.{mul-le-mul_right}
 use Rattle.cube_math.specs.Points.{PointValue}
 use Rattle.las_points.specs.Fields.{u16_at, i32_at, points_start, record_length}
 use Rattle.las_points.specs.Formats.{colour_end}
-use Rattle.las_points.specs.Reading.{colour_number, first_points, record_colour, record_point}
+use Rattle.las_points.specs.Reading.{colour_number, first_points, point_at, record_colour, record_point}
 use Rattle.las_points.specs.Records.{colour_place}
 use Rattle.las_points.specs.Tables.{rgb_words}
 use Rattle.las_points.specs.declared.reader.RgbByte.{RgbByte}
@@ -76,4 +77,6 @@ record_point-places rgb bytes place red green blue point range at_red at_green a
 pub first_points-more : (rgb : RgbByte) (bytes : List ℕ) (i place : ℕ) (points more : List PointValue) (point : PointValue)
     → place ≡ points_start bytes + i * record_length bytes → points ≡ first_points rgb bytes i → point ≡ record_point rgb bytes place
     → more ≡ points ++ point ∷ [] → more ≡ first_points rgb bytes (i + 1)
-first_points-more rgb bytes i place points more point placed before is pushed = rw (pushed, add-one i, before, is, placed) refl
+first_points-more rgb bytes i place points more point placed before is pushed =
+    pushed ∙ ap (λ (ps : List PointValue). ps ++ point ∷ []) before ∙ ap (λ (p : PointValue). first_points rgb bytes i ++ p ∷ []) (is ∙ ap (record_point rgb bytes) placed)
+    ∙ sym (map-range_with_len_more (point_at rgb bytes) 0 i i (omega arith))

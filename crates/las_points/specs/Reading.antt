@@ -1,5 +1,6 @@
 -- The points of a file, or why it is not read.
-use Rattle.std.specs.Prelude.{◌≡◌, ⊤, ℕ, zero, suc, ◌+◌, ◌*◌, ◌/◌, ◌%◌, List, [], ◌∷◌, ◌++◌, Option, Some, None, Result, Ok, Err}
+use Rattle.std.specs.Prelude.{◌≡◌, ⊤, ℕ, ◌+◌, ◌*◌, ◌/◌, ◌%◌, List, map, Option, Some, None, Result, Ok, Err}
+use Rattle.std.specs.List.{range_with_len}
 use Rattle.cube_math.specs.Points.{PointValue}
 use Rattle.las_points.specs.Fields.{u16_at, i32_at, points_start, record_length, frame, point_count}
 use Rattle.las_points.specs.Tables.{rgb_words}
@@ -42,10 +43,13 @@ record_point rgb bytes place = record {
   rgb = record_colour rgb (rgb_words bytes) bytes place;
 }
 
+-- the point of a record, by its number from 0
+abbrev pub point_at : RgbByte → List ℕ → ℕ → PointValue
+point_at rgb bytes i = record_point rgb bytes (points_start bytes + i * record_length bytes)
+
 -- the first n points of a file, each from its place
 abbrev pub first_points : RgbByte → List ℕ → ℕ → List PointValue
-first_points rgb bytes zero = []
-first_points rgb bytes (suc i) = first_points rgb bytes i ++ record_point rgb bytes (points_start bytes + i * record_length bytes) ∷ []
+first_points rgb bytes n = map (point_at rgb bytes) (range_with_len 0 n)
 
 -- what a file holds that nothing refuses: as many points as it says, and its frame
 abbrev pub cloud : RgbByte → List ℕ → CloudValue

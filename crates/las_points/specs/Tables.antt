@@ -15,7 +15,7 @@ pub record IsTable (bytes : List ℕ) (table : PointTable) : Type 0 where
   pub length_is : table.length ≡ record_length bytes
   pub count : table.count ≡ point_count bytes
   pub rgb : table.rgb ≡ rgb_words bytes
-  pub behind_header : 227 ≤ table.start
+  pub behind_frame : 227 ≤ table.start
   pub held : table.start + table.count * table.length ≤ length bytes
   pub coordinates : 20 ≤ table.length
   pub colour : colour_end table.rgb ≤ table.length

@@ -1,5 +1,6 @@
 -- What the values of options stand for, and the job that they make.
-use Rattle.std.specs.Prelude.{ℕ, ◌≤◌, IfSome, ℤ, pos, List, [], ◌∷◌, Bool, false, Option, option_map, map, codes}
+use Rattle.std.specs.Prelude.{ℕ, ◌≡◌, ◌≤◌, IfSome, ℤ, pos, ◌-ℤ◌, int_le, List, [], ◌∷◌, Bool, true, false, ◌&&◌, Option, option_map, map, codes}
+use Rattle.std.specs.List.{list_all}
 use Rattle.std.specs.Option.{option_map_or}
 use Rattle.std.specs.Str.{bytes_eq}
 use Rattle.cube_math.specs.Cubes.{CubeValue}
@@ -90,6 +91,10 @@ job_of command words = record {
 abbrev pub IsBetween : ℕ → ℕ → ℕ → Type 0
 IsBetween low high n = (low ≤ n) × (n ≤ high)
 
+-- a direction of a camera lies along an axis from -1024 to 1024
+abbrev pub is_direction : ℤ → Bool
+is_direction n = int_le (pos 0 -ℤ pos 1024) n && int_le n (pos 1024)
+
 -- the ranges of a job's numbers
 pub record HasRanges (j : JobValue) : Type 0 where
   pub leaf : IsBetween 1 50000 j.leaf
@@ -98,6 +103,7 @@ pub record HasRanges (j : JobValue) : Type 0 where
   pub chunks : IfSome j.chunks (λ n. IsBetween 1 1000000 n)
   pub batch : IsBetween 1 50000 j.batch
   pub decimals : IsBetween 0 9 j.decimals
+  pub rows : list_all is_direction j.rows ≡ true
   pub focal : IsBetween 1 65536 j.focal
   pub near : IsBetween 1 1000000000 j.near
   pub width : IsBetween 1 4096 j.size.0

@@ -1,10 +1,9 @@
 -- The job of the words, and what is due of it.
 use Rattle.std.proofs.Common.{◌≡◌, ◌⊎◌, inl, inr, ℕ, List, [], Option, Result, Ok, Err, ap, ◌∙◌, sym, refl, subst, Global}
 use Rattle.std.specs.Prelude.{Vec, vec_items, Bool, true, false}
-use Rattle.std.specs.List.{list_any}
 use Rattle.cloud_io.specs.Files.{Folder}
 use Rattle.run_report.specs.declared.fault.Fault.{Fault}
-use Rattle.run_report.specs.declared.fault.Fault.TheVariants.{Command, Options}
+use Rattle.run_report.specs.declared.fault.Fault.TheVariants.{Command}
 use Rattle.run_words.specs.Commands.{Text}
 use Rattle.run_words.specs.declared.command.CommandName.{CommandName}
 use Rattle.run_words.specs.Jobs.{job}
@@ -14,7 +13,7 @@ use Rattle.run_words.specs.declared.words.WordsFault.TheVariants as words
 use Rattle.simlod_app.specs.Dues.{IsDue, GivesOver, Gives}
 use Rattle.simlod_app.specs.Outcomes.{AreSources, AreFilesOf, IsReached, IsNextOf}
 use Rattle.simlod_app.specs.RunFaults.{words_fault, IsOrMemory}
-use Rattle.simlod_app.specs.Runs.{Source, ◌>>=◌, is_limit, is_run, of_words, reading_of, run_here, job_here, job_answer, answer}
+use Rattle.simlod_app.specs.Runs.{Source, ◌>>=◌, is_run, of_words, reading_of, run_here, job_here, job_answer, answer}
 use Rattle.simlod_app.proofs.DueLaws.{due_first, due_apart, gives_through, gives_next}
 use Rattle.simlod_app.proofs.Readings.{sources, are_sources}
 
@@ -31,29 +30,25 @@ due_in_place : (due : Result JobValue Fault) (f g : Fault) → f ≡ g → IsDue
 due_in_place due f g same h = subst (λ (e : Fault). IsDue (λ name. ⊥) ⊥ due e) (sym same) h
 
 -- a command that is not run here
-pub other_command : (ws : List Text) (j : JobValue) (command : CommandName) (run : Bool) → j.command ≡ command → run ≡ is_run command → run ≡ false → run_here ws j ≡ Err Command
+pub other_command : (j : JobValue) (command : CommandName) (run : Bool) → j.command ≡ command → run ≡ is_run command → run ≡ false → run_here j ≡ Err Command
 unfolding run_here
-other_command ws j command run is same not_run = rw (ap is_run is ∙ sym same ∙ not_run) refl
+other_command j command run is same not_run = rw (ap is_run is ∙ sym same ∙ not_run) refl
 
-pub limit_refused : (ws : List Text) (j : JobValue) (command : CommandName) (run : Bool) → j.command ≡ command → run ≡ is_run command → run ≡ true → list_any (λ word. is_limit word) ws ≡ true → run_here ws j ≡ Err Options
+pub runs_here : (j : JobValue) (command : CommandName) (run : Bool) → j.command ≡ command → run ≡ is_run command → run ≡ true → run_here j ≡ Ok j
 unfolding run_here
-limit_refused ws j command run is same runs limit = rw (ap is_run is ∙ sym same ∙ runs, limit) refl
-
-pub runs_here : (ws : List Text) (j : JobValue) (command : CommandName) (run : Bool) → j.command ≡ command → run ≡ is_run command → run ≡ true → list_any (λ word. is_limit word) ws ≡ false → run_here ws j ≡ Ok j
-unfolding run_here
-runs_here ws j command run is same runs limit = rw (ap is_run is ∙ sym same ∙ runs, limit) refl
+runs_here j command run is same runs = rw (ap is_run is ∙ sym same ∙ runs) refl
 
 -- words that are no job
 pub no_job : (ws : List Text) (e : WordsFault) (f : Fault) → (e ≡ words.Memory) ⊎ (job ws ≡ Err e) → IsOrMemory (words_fault e) f → IsDue (λ name. ⊥) ⊥ (job_here ws) f
 unfolding job_here
 no_job ws e f refused (inl memory) = due_in_place (job_here ws) f _ memory tt
 no_job ws e f (inl memory) (inr is) = due_in_place (job_here ws) f _ (is ∙ ap words_fault memory) tt
-no_job ws e f (inr refused) (inr is) = due_in_place (job_here ws) f _ is (due_of_words (job_here ws) e (ap (λ r. of_words r >>= run_here ws) refused))
+no_job ws e f (inr refused) (inr is) = due_in_place (job_here ws) f _ is (due_of_words (job_here ws) e (ap (λ r. of_words r >>= run_here) refused))
 
 -- words that are a job
-pub a_job : (ws : List Text) (j : JobValue) (found : Result JobValue Fault) → job ws ≡ Ok j → Gives (λ k. k) found (run_here ws j) → Gives (λ k. k) found (job_here ws)
+pub a_job : (ws : List Text) (j : JobValue) (found : Result JobValue Fault) → job ws ≡ Ok j → Gives (λ k. k) found (run_here j) → Gives (λ k. k) found (job_here ws)
 unfolding job_here
-a_job ws j found is h = gives_next (λ name. ⊥) ⊥ (λ k. k) (of_words (job ws)) j (run_here ws) found (ap of_words is) h
+a_job ws j found is h = gives_next (λ name. ⊥) ⊥ (λ k. k) (of_words (job ws)) j run_here found (ap of_words is) h
 
 value_or : {X : Type 0} → X → Result X Fault → X
 value_or d (Ok x) = x

@@ -1,4 +1,3 @@
-pub mod Batches
 pub mod Dues
 pub mod Outcomes
 pub mod RunFaults

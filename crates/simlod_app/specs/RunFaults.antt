@@ -1,11 +1,13 @@
 -- The faults of a run that the faults of its parts become.
 use Rattle.std.specs.Prelude.{◌≡◌, ◌⊎◌}
+use Rattle.batch_bounds.specs.declared.admission.Refusal.{Refusal}
+use Rattle.batch_bounds.specs.declared.admission.Refusal.TheVariants as bounds
 use Rattle.cloud_io.specs.declared.faults.ReadFault.{ReadFault}
 use Rattle.cloud_io.specs.declared.faults.ReadFault.TheVariants as reading
 use Rattle.las_points.specs.declared.reader.LasFault.{LasFault}
 use Rattle.las_points.specs.declared.reader.LasFault.TheVariants as las
 use Rattle.run_report.specs.declared.fault.Fault.{Fault}
-use Rattle.run_report.specs.declared.fault.Fault.TheVariants.{Command, Word, Options, Value, Pixels, NoFile, ReadFault as FailedRead, Fields, Number, Range, NotLas, HeaderShort, Version, Compressed, Format, Length, Start, PointsShort, TooLong, Memory}
+use Rattle.run_report.specs.declared.fault.Fault.TheVariants.{Command, Word, Options, Value, Pixels, NoFile, ReadFault as FailedRead, Fields, Number, Range, NotLas, HeaderShort, Version, Compressed, Format, Length, Start, PointsShort, TooLong, Batch, Memory}
 use Rattle.run_words.specs.Commands.{Text}
 use Rattle.run_words.specs.Options.{option_word}
 use Rattle.run_words.specs.declared.words.WordsFault.{WordsFault}
@@ -47,6 +49,11 @@ las_fault file (las.Length have need) = Length file have need
 las_fault file (las.Start offset header) = Start file offset header
 las_fault file (las.PointsShort have need) = PointsShort file have need
 las_fault file las.Memory = Memory
+
+-- a batch that a bound refuses
+abbrev pub refusal_fault : Refusal → Fault
+refusal_fault (bounds.Batch row) = Batch row
+refusal_fault bounds.Memory = Memory
 
 -- the fault, or want of memory in its place
 abbrev pub IsOrMemory : Fault → Fault → Type 0

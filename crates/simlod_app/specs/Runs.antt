@@ -1,8 +1,10 @@
 -- What a run is to answer, of its words and of what its files have: its whole output, or its first refusal.
 use Rattle.std.specs.Prelude.{ℕ, ◌-◌, List, [], map, Bool, true, false, ◌&&◌, ◌||◌, not, nat_lt, Option, Some, None, Result, Ok, Err, if◌then◌else◌, length, drop, find, option_map, unwrap_or, codes}
-use Rattle.std.specs.List.{list_any}
 use Rattle.std.specs.Option.{option_map_or}
 use Rattle.std.specs.Str.{bytes_eq, str_eq_ignore_ascii_case}
+use Rattle.batch_bounds.specs.Batches.{batches}
+use Rattle.batch_bounds.specs.Bounds.{first_refusal}
+use Rattle.batch_bounds.specs.declared.limits.Limits.{Limits}
 use Rattle.cube_math.specs.Points.{PointValue}
 use Rattle.cube_math.specs.Cubes.{CubeValue}
 use Rattle.octree_model.specs.Bags.{joined}
@@ -13,23 +15,24 @@ use Rattle.las_points.specs.Reading.{las}
 use Rattle.las_points.specs.declared.reader.LasFault.{LasFault}
 use Rattle.las_points.specs.declared.reader.RgbByte.{RgbByte}
 use Rattle.las_points.specs.declared.reader.RgbByte.TheVariants.{High, Low}
+use Rattle.picture_model.specs.Pictures.{picture}
+use Rattle.camera_cut.specs.Fields.{camera_of}
+use Rattle.camera_cut.specs.declared.numbers.CameraNumbers.{CameraNumbers}
 use Rattle.octree_plain.specs.Bounds.{bounds_text}
 use Rattle.octree_plain.specs.Fitting.{fitted_cube}
 use Rattle.octree_plain.specs.Listing.{nodes_text}
 use Rattle.octree_plain.specs.declared.fitting.Span.{Span}
 use Rattle.run_report.specs.declared.fault.Fault.{Fault}
-use Rattle.run_report.specs.declared.fault.Fault.TheVariants.{Command, Options, NoFile, TooLong, Frames, Axis, Batch}
+use Rattle.run_report.specs.declared.fault.Fault.TheVariants.{Command, NoFile, TooLong, Frames, Axis, Batch}
 use Rattle.run_words.specs.Commands.{Text, is_same}
 use Rattle.run_words.specs.Jobs.{job}
-use Rattle.run_words.specs.Screens.{gives}
 use Rattle.run_words.specs.Values.{JobValue}
 use Rattle.run_words.specs.declared.command.CommandName.{CommandName}
-use Rattle.run_words.specs.declared.command.CommandName.TheVariants.{Nodes, Bounds}
+use Rattle.run_words.specs.declared.command.CommandName.TheVariants.{Nodes, Bounds, Image}
 use Rattle.run_words.specs.declared.words.WordsFault.{WordsFault}
 use Rattle.xyz_points.specs.Reading.{xyz, all_or_first_error}
 use Rattle.xyz_points.specs.declared.reader.XyzFault.{XyzFault}
 use Rattle.simlod_app.specs.declared.scan.Reading.{Reading}
-use Rattle.simlod_app.specs.Batches.{batches, first_outside_row}
 use Rattle.simlod_app.specs.RunFaults.{words_fault, xyz_fault, las_fault}
 
 infixl 10 ◌>>=◌
@@ -46,13 +49,10 @@ ends_as end word = str_eq_ignore_ascii_case (drop (length word - 4) word) end
 abbrev pub is_las : Text → Bool
 is_las name = ends_as (codes ".las") name || ends_as (codes ".laz") name
 
--- whether a word sets a limit on nodes or points
-abbrev pub is_limit : Text → Bool
-is_limit word = gives (codes "nodes") word || gives (codes "points") word
-
 -- whether a command is run here
 abbrev pub is_run : CommandName → Bool
 is_run Nodes = true
+is_run Image = true
 is_run Bounds = true
 is_run _ = false
 
@@ -61,16 +61,13 @@ abbrev pub of_words : Result JobValue WordsFault → Result JobValue Fault
 of_words (Ok j) = Ok j
 of_words (Err fault) = Err (words_fault fault)
 
--- a job, if it is one that is run here: of a command that is run, and without limits on nodes and points
-unfoldable pub run_here : List Text → JobValue → Result JobValue Fault
-run_here words j =
-    if not (is_run j.command) then Err Command
-    else if list_any (λ word. is_limit word) words then Err Options
-    else Ok j
+-- a job, if it is of a command that is run here
+unfoldable pub run_here : JobValue → Result JobValue Fault
+run_here j = if not (is_run j.command) then Err Command else Ok j
 
 -- the job of the words, if it is one that is run here
 unfoldable pub job_here : List Text → Result JobValue Fault
-job_here words = of_words (job words) >>= run_here words
+job_here words = of_words (job words) >>= run_here
 
 -- a file of a job: its name, and its bytes, or None where it is not there
 abbrev pub Source : Type 0
@@ -151,19 +148,38 @@ abbrev pub cube_of : Option CubeValue → List PointValue → Result CubeValue F
 cube_of (Some given) points = Ok given
 cube_of None points = of_span (fitted_cube points)
 
--- a listing, if no batch is refused: the text of the octree of all points
-unfoldable pub listing_in : JobValue → List (List PointValue) → CubeValue → Result (List ℕ) Fault
-listing_in j clouds cube =
-    option_map_or (λ row. Err (Batch row)) (first_outside_row cube (batches j.batch clouds))
-    (Ok (nodes_text j.voxels (octree j.leaf cube (joined clouds)) cube))
+-- the numbers of a job's camera
+abbrev pub camera_numbers : JobValue → CameraNumbers
+camera_numbers j = record {
+  pos = j.pos;
+  rows = j.rows;
+  focal = j.focal;
+  near = j.near;
+  width = j.size.0;
+  height = j.size.1;
+  threshold = j.threshold;
+  dot = j.dot;
+}
 
--- a listing in the root cube, if there is one
-abbrev pub listing_round : JobValue → List (List PointValue) → Result CubeValue Fault → Result (List ℕ) Fault
-listing_round j clouds cube = cube >>= listing_in j clouds
+-- what is shown of the octree of points in a cube: the picture that the job's camera takes of it, or its text
+abbrev pub shown : JobValue → CubeValue → List PointValue → List ℕ
+shown j cube points =
+    if is_same j.command Image then picture j.leaf cube points (camera_of (camera_numbers j))
+    else nodes_text j.voxels (octree j.leaf cube points) cube
 
--- the listing of these clouds
-abbrev pub listing : JobValue → List (List PointValue) → Result (List ℕ) Fault
-listing j clouds = listing_round j clouds (cube_of j.cube (joined clouds))
+-- the limits on a job's octree
+abbrev pub limits_of : JobValue → Limits
+limits_of j = record { leaf = j.leaf; nodes = j.nodes; points = j.points }
+
+-- what is shown of the octree of all points, if no batch is refused
+unfoldable pub output_in : JobValue → List (List PointValue) → CubeValue → Result (List ℕ) Fault
+output_in j clouds cube =
+    option_map_or (λ row. Err (Batch row)) (first_refusal cube (limits_of j) (batches j.batch clouds))
+    (Ok (shown j cube (joined clouds)))
+
+-- the output of a job that shows the octree of these clouds in its root cube, if there is one
+abbrev pub octree_output : JobValue → List (List PointValue) → Result (List ℕ) Fault
+octree_output j clouds = cube_of j.cube (joined clouds) >>= output_in j clouds
 
 -- what the points take up, with the least cube round them
 abbrev pub bounds_round : List PointValue → Result CubeValue Fault → Result (List ℕ) Fault
@@ -171,7 +187,7 @@ bounds_round points cube = cube >>= λ c. Ok (bounds_text points c)
 
 -- the output of a job with these clouds
 abbrev pub output : JobValue → List (List PointValue) → Result (List ℕ) Fault
-output j clouds = if is_same j.command Bounds then bounds_round (joined clouds) (cube_of None (joined clouds)) else listing j clouds
+output j clouds = if is_same j.command Bounds then bounds_round (joined clouds) (cube_of None (joined clouds)) else octree_output j clouds
 
 -- how a job reads its files
 abbrev pub reading_of : JobValue → Reading

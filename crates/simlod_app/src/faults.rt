@@ -1,7 +1,9 @@
 ghost use Rattle.run_report.specs.Faults.{HasAxis};
-ghost use Rattle.simlod_app.specs.RunFaults.{words_fault, read_fault, xyz_fault, las_fault, IsOrMemory};
+ghost use Rattle.std.specs.Prelude.{◌≡◌};
+ghost use Rattle.simlod_app.specs.RunFaults.{words_fault, read_fault, xyz_fault, las_fault, refusal_fault, IsOrMemory};
 ghost use Rattle.run_report.specs.declared.fault.Fault.TheVariants.{Frames};
 
+use batch_bounds::Refusal;
 use cloud_io::ReadFault;
 use las_points::LasFault;
 use run_report::{Fault, Name};
@@ -81,6 +83,17 @@ pub fn of_las(alloc: Global, name: &str, fault: LasFault) -> Fault
         },
         LasFault::PointsShort { have, need } => Fault::PointsShort { name, have, need },
         LasFault::Memory => Fault::Memory,
+    }
+}
+
+/// The fault of a batch that a bound refuses, or want of memory.
+pub fn of_refusal(refusal: Refusal) -> Fault
+    ensures kind { result ≡ refusal_fault refusal }
+    ensures axis { HasAxis result }
+{
+    match refusal {
+        Refusal::Batch { row } => Fault::Batch { row },
+        Refusal::Memory => Fault::Memory,
     }
 }
 

@@ -3,7 +3,7 @@
 
 mod bounds;
 mod faults;
-mod nodes;
+mod octree;
 mod output;
 mod plain;
 mod scan;

@@ -7,7 +7,7 @@ ghost use Rattle.simlod_app.specs.Outcomes.{AreSources, IsReached};
 ghost use Rattle.simlod_app.specs.Runs.{Source, job_answer, output, reading_of};
 
 use crate::bounds::bounds;
-use crate::nodes::listing;
+use crate::octree::octree_output;
 use crate::scan::{Reading, read_clouds};
 use cloud_io::Inputs;
 use cube_math::Point;
@@ -46,6 +46,6 @@ fn output(alloc: Global, clouds: Vec<Vec<Point>>, job: &Job) -> Result<Vec<u8>, 
 {
     match job.command {
         CommandName::Bounds => bounds(alloc, clouds),
-        _ => listing(alloc, clouds, job),
+        _ => octree_output(alloc, clouds, job),
     }
 }

@@ -1,40 +1,35 @@
 ghost use Rattle.std.specs.Prelude.{IfOk, IfErr, ◌≡◌, map, string_bytes};
-ghost use Rattle.std.specs.List.{list_any};
 ghost use Rattle.run_report.specs.Faults.{HasAxis};
 ghost use Rattle.run_words.specs.Values.{HasRanges};
 ghost use Rattle.simlod_app.specs.Dues.{Gives};
-ghost use Rattle.simlod_app.specs.Runs.{is_limit, is_run, job_here, run_here};
+ghost use Rattle.simlod_app.specs.Runs.{is_run, job_here, run_here};
 
 use crate::faults;
 use run_report::Fault;
 use run_words::{CommandName, Job, read_words};
 use std::alloc::Global;
 
-/// The job of the words, if it is one that is run here: a listing or bounds, without the limits on
-/// nodes and points.
+/// The job of the words, if it is one that is run here: a listing, a picture or bounds.
 pub fn read_job(alloc: Global, words: &[String]) -> Result<Job, Fault>
     ensures gives { Gives (λ j. j) result (job_here (map string_bytes words.now)) }
     ensures ranges { IfOk result (λ j. HasRanges j) }
     ensures axis { IfErr result HasAxis }
 {
     match read_words(alloc, words) {
-        Ok(job) => run_here(words, job),
+        Ok(job) => run_here(job),
         Err(fault) => Err(faults::of_words(alloc, fault)),
     }
 }
 
 /// A job, if it is one that is run here.
-fn run_here(words: &[String], job: Job) -> Result<Job, Fault>
+fn run_here(job: Job) -> Result<Job, Fault>
     requires { HasRanges job }
-    ensures gives { Gives (λ j. j) result (run_here (map string_bytes words.now) job) }
+    ensures gives { Gives (λ j. j) result (run_here job) }
     ensures ranges { IfOk result (λ j. HasRanges j) }
     ensures axis { IfErr result HasAxis }
 {
     if !is_run(job.command) {
         return Err(Fault::Command);
-    }
-    if has_limit(words) {
-        return Err(Fault::Options);
     }
     Ok(job)
 }
@@ -44,21 +39,7 @@ fn is_run(command: CommandName) -> bool
     ensures { result ≡ is_run command }
 {
     match command {
-        CommandName::Nodes | CommandName::Bounds => true,
+        CommandName::Nodes | CommandName::Bounds | CommandName::Image => true,
         _ => false,
     }
-}
-
-/// Whether a word sets a limit on nodes or points.
-fn has_limit(words: &[String]) -> bool
-    ensures { result ≡ list_any (λ word. is_limit (string_bytes word)) words.now }
-{
-    words.iter().any(|word| is_limit(word.as_str()))
-}
-
-/// Whether a word sets a limit on nodes or points.
-fn is_limit(word: &str) -> bool
-    ensures { result ≡ is_limit word.now }
-{
-    word.starts_with("--nodes=") || word.starts_with("--points=")
 }

@@ -5,7 +5,11 @@
 #[cfg(test)]
 mod bounds;
 #[cfg(test)]
+mod limits;
+#[cfg(test)]
 mod listings;
+#[cfg(test)]
+mod pictures;
 #[cfg(test)]
 mod refusals;
 #[cfg(test)]

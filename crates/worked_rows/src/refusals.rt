@@ -47,12 +47,9 @@ fn words_that_are_no_job_are_refused_in_order(rt: HostRuntime) -> Result<(), Fai
 #[test]
 fn jobs_that_are_not_run_here_are_refused(rt: HostRuntime) -> Result<(), Fail> {
     let rows = [
-        ("image p.xyz", "simlod: usage: command\n"),
         ("live p.xyz", "simlod: usage: command\n"),
         ("replay --schedule=s p.xyz", "simlod: usage: command\n"),
         ("demo", "simlod: usage: command\n"),
-        ("nodes --nodes=8 p.xyz", "simlod: usage: options\n"),
-        ("nodes p.xyz --points=2", "simlod: usage: options\n"),
     ];
     for (line, said) in rows {
         expect_refusal(&rt, rt.alloc(), line, "0 0 0\n", Status::Usage, said)?;

@@ -1,0 +1,146 @@
+ghost use Rattle.std.specs.Prelude.{◌≡◌, ◌<◌, ◌^◌, IsTrue, List, IfOk, IfErr, length, map, vec_items};
+ghost use Rattle.batch_bounds.specs.Batches.{batches, ends_from};
+ghost use Rattle.batch_bounds.specs.Stops.{CanCut};
+ghost use Rattle.camera_cut.specs.Fields.{camera_of};
+ghost use Rattle.cube_math.specs.Points.{PointValue};
+ghost use Rattle.octree_model.specs.Bags.{joined};
+ghost use Rattle.octree_model.specs.Octree.{octree};
+ghost use Rattle.octree_model.specs.Shapes.{IsOctreeIn};
+ghost use Rattle.run_report.specs.Faults.{HasAxis};
+ghost use Rattle.run_words.specs.Values.{HasRanges};
+ghost use Rattle.simlod_app.specs.Dues.{Gives};
+ghost use Rattle.simlod_app.specs.Runs.{cube_of, camera_numbers, limits_of, octree_output, output_in, shown};
+
+use crate::faults;
+use crate::scan::join;
+use batch_bounds::{Limits, batch_ends, build_within};
+use camera_cut::{Camera, CameraNumbers};
+use cube_math::{Cube, Point};
+use octree_plain::{Tree, fit_cube, nodes_text};
+use run_report::Fault;
+use run_words::{CommandName, Job};
+use splat_ppm::picture_of;
+use std::alloc::{AllocError, Global};
+
+/// What a job shows of the octree of all points of the clouds.
+pub fn octree_output(alloc: Global, clouds: Vec<Vec<Point>>, job: &Job) -> Result<Vec<u8>, Fault>
+    requires { HasRanges job.now }
+    ensures axis { IfErr result HasAxis }
+    ensures gives { Gives vec_items result (octree_output job.now (map vec_items clouds.items)) }
+{
+    // A batch has a number of 32 bits.
+    if !are_few(clouds.as_slice()) {
+        return Err(Fault::Memory);
+    }
+    let ends = batch_ends(alloc, clouds.as_slice(), job.batch)?;
+    let points = join(alloc, clouds)?;
+    let cube = root_cube(points.as_slice(), job)?;
+    output_in(alloc, points.as_slice(), ends.as_slice(), &cube, job)
+}
+
+/// Whether the clouds have fewer than 2^32 points together.
+fn are_few(clouds: &[Vec<Point>]) -> bool
+    ensures few { IsTrue result → length (joined (map vec_items clouds.now)) < 2 ^ 32 }
+{
+    let mut left = u32::MAX as usize;
+    for cloud in clouds {
+        if cloud.len() > left {
+            return false;
+        }
+        left -= cloud.len();
+    }
+    true
+}
+
+/// The cube that was given, or the least one round all points, if there is one.
+fn root_cube(points: &[Point], job: &Job) -> Result<Cube, Fault>
+    ensures axis { IfErr result HasAxis }
+    ensures gives { Gives (λ cube. cube) result (cube_of job.now.cube points.now) }
+{
+    match job.cube {
+        Some(cube) => Ok(cube),
+        None => match fit_cube(points) {
+            Ok(cube) => Ok(cube),
+            Err(span) => Err(Fault::Axis {
+                axis: span.axis,
+                span: span.span,
+            }),
+        },
+    }
+}
+
+/// What is shown of the octree of points that are cut into batches, if no bound refuses one.
+fn output_in(
+    alloc: Global,
+    points: &[Point],
+    ends: &[usize],
+    cube: &Cube,
+    job: &Job,
+) -> Result<Vec<u8>, Fault>
+    requires cut { CanCut points.now ends.now }
+    requires few { length points.now < 2 ^ 32 }
+    requires batches { length ends.now < 2 ^ 32 }
+    requires ranges { HasRanges job.now }
+    ensures axis { IfErr result HasAxis }
+    ensures gives { (clouds : List (List PointValue)) → points.now ≡ joined clouds → ends.now ≡ ends_from 0 (batches job.now.batch clouds)
+        → Gives vec_items result (output_in job.now clouds cube.now) }
+{
+    match build_within(alloc, points, ends, cube, &limits_of(job)) {
+        Ok(tree) => match shown(alloc, &tree, cube, job) {
+            Ok(output) => Ok(output),
+            Err(_) => Err(Fault::Memory),
+        },
+        Err(refusal) => Err(faults::of_refusal(refusal)),
+    }
+}
+
+/// What is shown of an octree: a picture, or its text.
+fn shown(alloc: Global, tree: &Tree, cube: &Cube, job: &Job) -> Result<Vec<u8>, AllocError>
+    requires octree { IsOctreeIn cube.now tree.now }
+    requires ranges { HasRanges job.now }
+    ensures { (points : List PointValue) → tree.now ≡ octree job.now.leaf cube.now points → IfOk result (λ output. output.items ≡ shown job.now cube.now points) }
+{
+    match job.command {
+        CommandName::Image => picture_of(alloc, tree, cube, &camera_of(job)),
+        _ => nodes_text(alloc, tree, cube, job.voxels),
+    }
+}
+
+/// The limits on a job's octree.
+fn limits_of(job: &Job) -> Limits
+    ensures { result ≡ limits_of job.now }
+{
+    Limits {
+        leaf: job.leaf,
+        nodes: job.nodes,
+        points: job.points,
+    }
+}
+
+/// The camera of a job.
+fn camera_of(job: &Job) -> Camera
+    requires { HasRanges job.now }
+    ensures { result ≡ camera_of (camera_numbers job.now) }
+{
+    match Camera::new(numbers_of(job)) {
+        Ok(camera) => camera,
+        Err(_) => unreachable!(),
+    }
+}
+
+/// The numbers of a job's camera.
+fn numbers_of(job: &Job) -> CameraNumbers
+    ensures { result ≡ camera_numbers job.now }
+{
+    let (width, height) = job.size;
+    CameraNumbers {
+        pos: job.pos,
+        rows: job.rows,
+        focal: job.focal,
+        near: job.near,
+        width,
+        height,
+        threshold: job.threshold,
+        dot: job.dot,
+    }
+}

@@ -1,0 +1,3 @@
+pub mod Canvases
+pub mod Lowering
+pub mod Spots

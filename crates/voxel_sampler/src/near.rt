@@ -10,10 +10,10 @@ use std::marker::Model;
 /// colour number.
 #[derive(Clone, Copy, Debug, PartialEq, Eq)]
 pub struct Near {
+    /// The square of the distance. It stands first, so that no entry has gaps.
+    pub far: u64,
     /// The number of the cell, below 2^21.
     pub cell: u32,
-    /// The square of the distance.
-    pub far: u64,
     /// The colour number, below 2^24.
     pub rgb: u32,
 }

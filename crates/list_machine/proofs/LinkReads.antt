@@ -41,7 +41,7 @@ module _ (w : Words) (o : Owner) (guests : List Guest) (s : Sound w o guests) (j
   standing_of a leaf reached = as_standing (w.claim l) (w.first l) w.next w.slot a a.stage (stands_if o.book.cleared v.birth a.stage (s.shape.order.begun l a leaf) (s.counted.born j v at out).0 reached) (s.shape.lists.lists l a leaf).now
 
   module _ (from : LinkWord) (r c : ℕ) (knows : KnowsLink v l from r) (found : link_at w l from ≡ link_to r c) where
-    stated : OfLeaf leaves l (IsStated w v.birth (Link l from r c))
+    pub stated : OfLeaf leaves l (IsStated w v.birth (Link l from r c))
     stated = let z = leads from r knows in let y = standing_of z.0 z.1 z.2.0 in (
       z.0,
       z.1,

@@ -76,7 +76,7 @@ opening_list = record {
   );
 }
 
-nothing_granted : (n : ℕ) → total (λ (a : Leaf). a.granted) (replicate n opening_leaf) ≡ 0
+pub nothing_granted : (n : ℕ) → total (λ (a : Leaf). a.granted) (replicate n opening_leaf) ≡ 0
 nothing_granted zero = refl
 nothing_granted (suc n) = let h = nothing_granted n in omega arith
 

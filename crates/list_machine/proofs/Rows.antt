@@ -1,5 +1,5 @@
 -- A row of words with one number changed.
-use Rattle.std.proofs.Common.{◌≡◌, ℕ, ◌+◌, ◌<◌, ◌≢◌, Bool, true, false, List, length, get_or, set, refl, ap, ◌∙◌, arith, get_or-set_same, get_or-set_other}
+use Rattle.std.proofs.Common.{◌≡◌, ℕ, ◌+◌, ◌<◌, ◌≤◌, ◌≢◌, Bool, true, false, List, length, get_or, set, refl, ap, ◌∙◌, arith, get_or-set_same, get_or-set_other}
 use Rattle.std.specs.Prelude.{nat_lt, ◌&&◌}
 use Rattle.std.proofs.lemmas.Bool.Decides.{nat_tests}
 use Rattle.list_machine.specs.Words.{Word, decode}
@@ -30,7 +30,7 @@ is_below l n e = grind (arith, nat_tests)
 test_below : (l n : ℕ) → l < n → nat_lt l n ≡ true
 test_below l n lt = grind (arith, nat_tests)
 
-module _ (lists chunks : ℕ) (ws : List ℕ) (wide : length ws ≡ word_count lists chunks) where
+module _ (lists chunks : ℕ) (ws : List ℕ) (wide : word_count lists chunks ≤ length ws) where
   -- the parts of the row that a change of the word at i leaves
   claims_same : (i n : ℕ) → ((l : ℕ) → l < lists → l ≢ i) → (h : ℕ) → (words_of lists chunks (set ws i n)).claim h ≡ (words_of lists chunks ws).claim h
   claims_same i n apart h = ap decode (same_if (nat_lt h lists) (set ws i n) ws h (λ b. get_or-set_other ws i h n 0 (apart h (is_below h lists b))))

@@ -21,12 +21,12 @@ use Rattle.list_machine.proofs.Stages.{as_open, within_more}
 use Rattle.list_machine.proofs.Frames.{stands_if}
 use Rattle.list_machine.proofs.Guests.{guest_known, owner_knows}
 
-granting_at : (es : List Leaf) (gs : List Grant) (n i m : ℕ) (a : Leaf) → m ≡ n + i → IsAt es i a → IsAt (leaves_after_grants n es gs) i (with_grant a (left_in m gs))
+pub granting_at : (es : List Leaf) (gs : List Grant) (n i m : ℕ) (a : Leaf) → m ≡ n + i → IsAt es i a → IsAt (leaves_after_grants n es gs) i (with_grant a (left_in m gs))
 granting_at [] gs n i m a is p = absurd (none-some a p)
 granting_at (e ∷ es) gs n zero m a is p = let same : n ≡ m = omega arith in let d = same_Some e a p in λ t. Some (with_grant (d t) (left_in (same t) gs))
 granting_at (e ∷ es) gs n (suc i) m a is p = granting_at es gs (suc n) i m a (omega arith) p
 
-each_granting : (P : ℕ → Leaf → Type 0) (es : List Leaf) (gs : List Grant) (n : ℕ) → ((i m : ℕ) (a : Leaf) → m ≡ n + i → IsAt es i a → P i (with_grant a (left_in m gs))) → (i : ℕ) (e : Leaf) → IsAt (leaves_after_grants n es gs) i e → P i e
+pub each_granting : (P : ℕ → Leaf → Type 0) (es : List Leaf) (gs : List Grant) (n : ℕ) → ((i m : ℕ) (a : Leaf) → m ≡ n + i → IsAt es i a → P i (with_grant a (left_in m gs))) → (i : ℕ) (e : Leaf) → IsAt (leaves_after_grants n es gs) i e → P i e
 each_granting P [] gs n h i e p = absurd (none-some e p)
 each_granting P (a ∷ es) gs n h zero e p = subst (P 0) (same_Some (with_grant a (left_in n gs)) e p) (h 0 n a (omega arith) refl)
 each_granting P (a ∷ es) gs n h (suc i) e p = each_granting (λ (k : ℕ). P (suc k)) es gs (suc n) (λ k m b is q. h (suc k) m b (omega arith) q) i e p

@@ -18,7 +18,7 @@ pub clear_rows-push : (ls : List ℕ) (l : ℕ) (rows : List Row) → clear_rows
 clear_rows-push [] l rows = refl
 clear_rows-push (m ∷ ls) l rows = clear_rows-push ls l (set rows m (emptied (row_in rows m)))
 
-drop-push : (n : ℕ) (xs : List ℕ) (y : ℕ) → n ≤ length xs → drop n (xs ++ y ∷ []) ≡ drop n xs ++ y ∷ []
+pub drop-push : (n : ℕ) (xs : List ℕ) (y : ℕ) → n ≤ length xs → drop n (xs ++ y ∷ []) ≡ drop n xs ++ y ∷ []
 drop-push zero xs y low = refl
 drop-push (suc n) [] y low = absurd (omega arith)
 drop-push (suc n) (x ∷ xs) y low = drop-push n xs y (omega arith)
@@ -50,7 +50,7 @@ pub record IsClearing (p q : Plain) : Type 0 where
   pub known : (l x : ℕ) → (Contains (take q.cleared p.order) l → ⊥) → Knows p l x → Knows q l x
   pub stays : (l : ℕ) → (Contains (take q.cleared p.order) l → ⊥) → list_in q.lists l ≡ list_in p.lists l
 
-drop_all_taken : (n : ℕ) (xs : List ℕ) → drop n (take n xs) ≡ []
+pub drop_all_taken : (n : ℕ) (xs : List ℕ) → drop n (take n xs) ≡ []
 drop_all_taken zero xs = refl
 drop_all_taken (suc n) [] = refl
 drop_all_taken (suc n) (x ∷ xs) = drop_all_taken n xs

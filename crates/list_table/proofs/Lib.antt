@@ -1,0 +1,17 @@
+pub mod Names
+pub mod Seating
+pub mod Steps
+pub mod Frames
+pub mod Numbers
+pub mod Claims
+pub mod Fills
+pub mod Follows
+pub mod Extends
+pub mod Shuts
+pub mod Marks
+pub mod Clears
+pub mod Splits
+pub mod Opens
+pub mod Knowing
+pub mod Sent
+pub mod Worked

@@ -1,0 +1,8 @@
+use Rattle.std.proofs.Common.{◌≡◌}
+use Rattle.list_table.specs.OwnerMoves.{after_end}
+use Rattle.list_table.specs.Ruled.{ledger_of}
+use Rattle.list_table.proofs.Steps.{OwnerTold}
+use Rattle.list_table.proofs.lists.SharedLists.end_clearing.Given as goal
+
+abbrev pub ghosts-load : goal.ghosts-load
+ghosts-load a = record { then = OwnerTold a.desk.now.shared.key.lists a.desk.now.shared.key.chunks (λ _ h. h ≡ after_end (ledger_of a.seat.now.me.0) a._aim.list) }

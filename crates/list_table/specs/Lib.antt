@@ -1,0 +1,5 @@
+pub mod Ledgers
+pub mod Ruled
+pub mod Tables
+pub mod GuestMoves
+pub mod OwnerMoves

@@ -1,0 +1,7 @@
+pub mod Filings
+pub mod Going
+pub mod Shown
+pub mod Starts
+pub mod Uses
+pub mod Walking
+pub mod Worked

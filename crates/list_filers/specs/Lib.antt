@@ -1,0 +1,5 @@
+pub mod Cursors
+pub mod Ways
+pub mod Filers
+pub mod Room
+pub mod Rooms

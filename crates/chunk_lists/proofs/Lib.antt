@@ -1,0 +1,10 @@
+pub mod Rows
+pub mod Ties
+pub mod Chunks
+pub mod Granting
+pub mod Marking
+pub mod Closings
+pub mod Clearings
+pub mod Reclaims
+pub mod Knowing
+pub mod Lateness

@@ -1,0 +1,180 @@
+-- The next shut list is cleared, in the book and in the ledger, and lists are cleared one after another.
+use Rattle.std.proofs.Common.{◌≡◌, ℕ, suc, ◌+◌, ◌*◌, ◌<◌, ◌≤◌, inl, inr, ⊎_elim, cond, List, [], ◌∷◌, ◌++◌, Some, length, get_or, set, take, drop, sum_by, Contains, refl, sym, ap, ◌∙◌, subst, arith}
+use Rattle.std.proofs.lemmas.Bool.{cases_lt}
+use Rattle.std.proofs.lemmas.Option.{slice_get-get_or, same_Some}
+use Rattle.std.proofs.lemmas.List.{length-append, length-take}
+use Rattle.std.proofs.lemmas.List.Elements.{Contains-append_left, Contains-append_right}
+use Rattle.std.proofs.lemmas.List.Sums.{sum_by-set}
+use Rattle.std.proofs.Math.Seq.{take-suc}
+use Rattle.list_machine.specs.Facts.{IsAt, place_of}
+use Rattle.list_machine.specs.Rule.{AreOrdered, IsBegun}
+use Rattle.list_machine.specs.declared.views.Stage.{Stage}
+use Rattle.list_machine.specs.declared.views.Stage.TheVariants.{Open as Unshut, Swept, Cleared}
+use Rattle.list_machine.specs.declared.views.Leaf.{Leaf}
+use Rattle.list_machine.proofs.Lists.{at_same, at_below}
+use Rattle.list_words.specs.Store.{Row, Store, row_in, no_row, emptied, is_shut, held_in, held_of, chunks_of, clear_rows, Unreached, IsReclaimed}
+use Rattle.list_words.specs.declared.leaf_lists.Phase.{Phase}
+use Rattle.list_words.specs.declared.leaf_lists.Phase.TheVariants.{Fresh, Open, Shut}
+use Rattle.list_words.proofs.ReclaimLaws.{clear_rows-push, drop-push, drop_all_taken}
+use Rattle.list_book.specs.Books.{BookRow, BookValue, book_row, row_count, emptied_row, next_in_order, MayClearNext, with_next_cleared}
+use Rattle.list_table.specs.Ledgers.{no_notes, leaf_of, notes_of}
+use Rattle.list_table.specs.OwnerMoves.{MayBegin, chunks_in}
+use Rattle.list_table.specs.declared.views.Notes.{Notes}
+use Rattle.list_table.specs.declared.views.Ledger.{Ledger}
+use Rattle.list_table.proofs.Frames.{leaf_at}
+use Rattle.chunk_lists.specs.Keepers.{KeeperValue, rows_of, store_of, KnownIn, cleared_store, IsInPhase, IsTiedRow, AreTied}
+use Rattle.chunk_lists.specs.Wipes.{cleared_ledger}
+use Rattle.chunk_lists.proofs.Ties.{OneChanges, tied_set, store_then, row_is}
+
+-- the chains of a list whose clearing has begun are empty
+done_empty : (r : BookRow) (a : Leaf) (s : Notes) (p n : ℕ) → IsTiedRow r a s → a.stage ≡ Cleared p n → (a.claimed ≡ []) × (a.owned ≡ [])
+done_empty r a s p n one e = by r.phase one.phase where
+  by : (q : Phase) → IsInPhase q r a s → (a.claimed ≡ []) × (a.owned ≡ [])
+  by Fresh x = let no : Unshut ≡ Cleared p n = sym (ap (λ (b : Leaf). b.stage) x.0) ∙ e in absurd (cc)
+  by Open x = let no : Unshut ≡ Cleared p n = sym x.0 ∙ e in absurd (cc)
+  by Shut x = ⊎_elim (λ y. let no : Swept y.0 y.1 (y.1 + a.used) ≡ Cleared p n = sym y.2 ∙ e in absurd (cc)) (λ y. (one.claimed ∙ y.3, one.owned ∙ y.4)) x
+
+-- the stage of the list at this place of the order, where lists up to there are not cleared
+swept_at : (t : Stage) (p : ℕ) → place_of t ≡ Some p → IsBegun p t → (f : ℕ) × (m : ℕ) × (t ≡ Swept p f m)
+swept_at Unshut p e b = absurd (cc)
+swept_at (Swept q f m) p e b = (f, m, λ i. Swept (same_Some q p e i) f m)
+swept_at (Cleared q n) p e b = let is : q ≡ p = same_Some q p e in absurd (omega arith)
+
+module _ (lists chunks : ℕ) (g : Ledger) (b : BookValue) (t : AreTied lists chunks g b) (ordered : AreOrdered g.owner.book.leaves g.owner.book.order g.owner.book.cleared) (may : MayClearNext b) where
+  abbrev l : ℕ
+  l = next_in_order b
+
+  at : IsAt g.owner.book.order g.owner.book.cleared l
+  at = subst (λ (z : List ℕ × ℕ). IsAt z.0 z.1 l) (λ i. (sym t.order i, sym t.cleared i)) (slice_get-get_or b.order b.cleared 0 may.some)
+
+  pub next_below : l < lists
+  next_below = let x = ordered.listed g.owner.book.cleared l at in let lt = at_below g.owner.book.leaves l x.0 x.1 in let leaves = t.leaves in omega arith
+
+  pub may_begin : MayBegin g l
+  may_begin =
+      let x = ordered.listed g.owner.book.cleared l at in
+      let is = at_same g.owner.book.leaves l x.0 (leaf_of g l) x.1 (leaf_at g lists l t.leaves next_below) in
+      let y = swept_at x.0.stage g.owner.book.cleared x.2 (ordered.begun l x.0 x.1) in record {
+        found = y.0;
+        marks = y.1;
+        shut = ap (λ (a : Leaf). a.stage) (sym is) ∙ y.2;
+        ended = λ h p n a leaf e _. let lt = at_below g.owner.book.leaves h a leaf in let leaves = t.leaves in
+            let below : h < lists = omega arith in
+            let same = at_same g.owner.book.leaves h (leaf_of g h) a (leaf_at g lists h t.leaves below) leaf in
+            done_empty (book_row b h) a (notes_of g h) p n (subst (λ (z : Leaf). IsTiedRow (book_row b h) z (notes_of g h)) same (t.each h below)) e;
+        unreached = λ i le. ap (λ (os : List ℕ). get_or os i 0) t.out ∙ may.nobody i (let e = t.cleared in omega arith);
+      }
+
+  module _ (shut : (book_row b l).phase ≡ Shut) where
+    abbrev cleared_leaf : Leaf
+    cleared_leaf = record (leaf_of g l) { claimed = []; owned = []; stage = Cleared g.owner.book.cleared (257 * length (chunks_in (leaf_of g l)) + 1) }
+
+    pub changes_cleared : OneChanges g (cleared_ledger g l) b (with_next_cleared b) l (emptied_row (book_row b l)) cleared_leaf no_notes
+    changes_cleared = record { rows = refl; leaves = refl; notes = refl; chunks = refl; order = t.order; cleared = ap suc t.cleared; out = t.out; given = refl; granted = refl }
+
+    emptied_tied : IsTiedRow (emptied_row (book_row b l)) cleared_leaf no_notes
+    emptied_tied = record {
+      claimed = refl;
+      owned = refl;
+      granted = (t.each l next_below).granted;
+      phase = subst (λ (q : Phase). IsInPhase q (emptied_row (book_row b l)) cleared_leaf no_notes) (sym shut) (inr (g.owner.book.cleared, 257 * length (chunks_in (leaf_of g l)) + 1, refl, refl, refl, refl));
+    }
+
+    pub tied_cleared : AreTied lists chunks (cleared_ledger g l) (with_next_cleared b)
+    tied_cleared = tied_set lists chunks g b t (cleared_ledger g l) (with_next_cleared b) l (emptied_row (book_row b l)) cleared_leaf no_notes next_below emptied_tied changes_cleared
+
+    -- the store then
+    pub store_cleared : (name : List ℕ) → store_of (record { name = name; ledger = cleared_ledger g l; book = with_next_cleared b })
+        ≡ cleared_store (store_of (record { name = name; ledger = g; book = b })) l
+    store_cleared name =
+        store_then lists chunks g b t name (cleared_ledger g l) (with_next_cleared b) l (emptied_row (book_row b l)) cleared_leaf no_notes emptied changes_cleared refl
+        ∙ (λ i. let s : Store = store_of (record { name = name; ledger = g; book = b }) in record s { rows = set s.rows l (emptied (row_in s.rows l)); free = s.free + count i; cleared = suc s.cleared }) where
+          count : row_count (book_row b l) ≡ length (chunks_of (row_in (rows_of b.rows g.notes) l))
+          count = sym (length-append (book_row b l).claimed (book_row b l).owned) ∙ ap (λ (r : Row). length (chunks_of r)) (sym (row_is lists chunks g b t l))
+
+-- ---- lists that are cleared in turn
+
+-- stores after some of the lists that may be cleared were cleared
+pub record IsClearing (s u : Store) : Type 0 where
+  pub rises : s.cleared ≤ u.cleared
+  pub nobody : (k : ℕ) → s.cleared ≤ k → k < u.cleared → Unreached s.out k
+  pub free : u.free + held_of u ≡ s.free + held_of s
+  pub rest : u ≡ record s { rows = clear_rows (drop s.cleared (take u.cleared s.order)) s.rows; free = u.free; cleared = u.cleared }
+
+pub clearing_none : (s : Store) → IsClearing s s
+clearing_none s = record {
+  rises = omega arith;
+  nobody = λ k low high. absurd (omega arith);
+  free = refl;
+  rest = ap (λ (ls : List ℕ). let u : Store = record s { rows = clear_rows ls s.rows } in u) (sym (drop_all_taken s.cleared s.order));
+}
+
+pub clearing_more : (s u : Store) → IsClearing s u → u.cleared < length u.order → Unreached u.out u.cleared → (row_in u.rows (get_or u.order u.cleared 0)).phase ≡ Shut → get_or u.order u.cleared 0 < length u.rows → IsClearing s (cleared_store u (get_or u.order u.cleared 0))
+clearing_more s u done some nobody shut low =
+    let l : ℕ = get_or u.order u.cleared 0 in
+    let r : Row = row_in u.rows l in
+    let order_is : u.order ≡ s.order = ap (λ (x : Store). x.order) done.rest in
+    let out_is : u.out ≡ s.out = ap (λ (x : Store). x.out) done.rest in
+    let some_s : u.cleared < length s.order = subst (λ (xs : List ℕ). u.cleared < length xs) order_is some in
+    let l_is : get_or s.order u.cleared 0 ≡ l = ap (λ (xs : List ℕ). get_or xs u.cleared 0) (sym order_is) in
+    let taken : take (suc u.cleared) s.order ≡ take u.cleared s.order ++ l ∷ [] = take-suc s.order u.cleared 0 some_s ∙ ap (λ k. take u.cleared s.order ++ k ∷ []) l_is in
+    let long : s.cleared ≤ length (take u.cleared s.order) = omega (arith, length-take u.cleared s.order, done.rises) in
+    let names : drop s.cleared (take (suc u.cleared) s.order) ≡ drop s.cleared (take u.cleared s.order) ++ l ∷ [] = ap (drop s.cleared) taken ∙ drop-push s.cleared (take u.cleared s.order) l long in
+    let rows_u : u.rows ≡ clear_rows (drop s.cleared (take u.cleared s.order)) s.rows = ap (λ (x : Store). x.rows) done.rest in
+    let rows_new : set u.rows l (emptied r) ≡ clear_rows (drop s.cleared (take (suc u.cleared) s.order)) s.rows =
+    ap (λ (rows : List Row). set rows l (emptied (row_in rows l))) rows_u
+    ∙ (sym (clear_rows-push (drop s.cleared (take u.cleared s.order)) l s.rows)
+    ∙ ap (λ (ls : List ℕ). clear_rows ls s.rows) (sym names)) in
+    let sums : sum_by held_in (set u.rows l (emptied r)) + held_in r ≡ sum_by held_in u.rows + held_in (emptied r) = sum_by-set held_in u.rows l (emptied r) no_row low in
+    let held_new : held_in (emptied r) ≡ 0 = ap (λ p. cond (is_shut p) 0 0) shut in
+    let held_old : held_in r ≡ length (chunks_of r) = ap (λ p. cond (is_shut p) (length (chunks_of r)) 0) shut in
+    record {
+      rises = omega (arith, done.rises);
+      nobody = λ k from below. elim (cases_lt k u.cleared) [
+        | inl before ↦ done.nobody k from before
+        | inr last ↦ let same : k ≡ u.cleared = omega arith in subst (λ j. Unreached s.out j) (sym same) (subst (λ (xs : List ℕ). Unreached xs u.cleared) out_is nobody)
+      ];
+      free = omega (arith, done.free, sums, held_new, held_old);
+      rest =
+          ap (λ (rows : List Row). let x : Store = record u { rows = rows; free = u.free + length (chunks_of r); cleared = suc u.cleared } in x) rows_new
+          ∙ ap (λ (x : Store). let y : Store = record x { rows = clear_rows (drop s.cleared (take (suc u.cleared) s.order)) s.rows; free = u.free + length (chunks_of r); cleared = suc u.cleared } in y) done.rest;
+    }
+
+pub cleared_all : (s u : Store) → IsClearing s u → u.cleared ≤ length u.order → ((u.cleared < length u.order) × Unreached u.out u.cleared → ⊥) → IsReclaimed s u
+cleared_all s u done begun stop =
+    let order_is : u.order ≡ s.order = ap (λ (x : Store). x.order) done.rest in
+    let out_is : u.out ≡ s.out = ap (λ (x : Store). x.out) done.rest in record {
+      to = record {
+        rises = done.rises;
+        within = subst (λ (xs : List ℕ). u.cleared ≤ length xs) order_is begun;
+        nobody = done.nobody;
+        stops = λ some nobody. stop (subst (λ (xs : List ℕ). u.cleared < length xs) (sym order_is) some, subst (λ (xs : List ℕ). Unreached xs u.cleared) (sym out_is) nobody);
+      };
+      free = done.free;
+      rest = done.rest;
+    }
+
+-- an owner after some of the lists that may be cleared were cleared: nothing is forgotten of the others
+pub record IsClearingOf (k q : KeeperValue) : Type 0 where
+  pub stores : IsClearing (store_of k) (store_of q)
+  pub known : (h x : ℕ) → (Contains (take q.book.cleared k.book.order) h → ⊥) → KnownIn k h x → KnownIn q h x
+
+pub clearing_start : (k : KeeperValue) → IsClearingOf k k
+clearing_start k = record { stores = clearing_none (store_of k); known = λ h x uncleared known. known }
+
+contains_last : (l m : ℕ) → m ≡ l → Contains (l ∷ []) m
+contains_last l m same = let small : 0 < length (l ∷ []) = omega arith in (0, small, sym same)
+
+pub clearing_next : (k q n : KeeperValue) (l : ℕ) → IsClearingOf k q → MayClearNext q.book → l ≡ next_in_order q.book → store_of n ≡ cleared_store (store_of q) l → (row_in (store_of q).rows l).phase ≡ Shut → l < length (store_of q).rows
+    → ((h x : ℕ) → (h ≡ l → ⊥) → KnownIn q h x → KnownIn n h x) → IsClearingOf k n
+clearing_next k q n l done may is store shut low known =
+    let order_is : q.book.order ≡ k.book.order = ap (λ (x : Store). x.order) done.stores.rest in
+    let some : q.book.cleared < length k.book.order = subst (λ (xs : List ℕ). q.book.cleared < length xs) order_is may.some in
+    let l_is : get_or k.book.order q.book.cleared 0 ≡ l = ap (λ (xs : List ℕ). get_or xs q.book.cleared 0) (sym order_is) ∙ sym is in
+    let cleared : n.book.cleared ≡ suc q.book.cleared = ap (λ (x : Store). x.cleared) store in
+    let taken : take n.book.cleared k.book.order ≡ take q.book.cleared k.book.order ++ l ∷ [] = ap (λ (j : ℕ). take j k.book.order) cleared ∙ (take-suc k.book.order q.book.cleared 0 some ∙ ap (λ j. take q.book.cleared k.book.order ++ j ∷ []) l_is) in record {
+      stores = subst (IsClearing (store_of k)) (ap (cleared_store (store_of q)) (sym is) ∙ sym store) (clearing_more (store_of k) (store_of q) done.stores may.some may.nobody (subst (λ (j : ℕ). (row_in (store_of q).rows j).phase ≡ Shut) is shut) (subst (λ (j : ℕ). j < length (store_of q).rows) is low));
+      known = λ h x uncleared was. known h x
+          (λ same. uncleared (subst (λ (xs : List ℕ). Contains xs h) (sym taken) (Contains-append_right (take q.book.cleared k.book.order) (l ∷ []) h (contains_last l h same))))
+          (done.known h x (λ inside. uncleared (subst (λ (xs : List ℕ). Contains xs h) (sym taken) (Contains-append_left (take q.book.cleared k.book.order) (l ∷ []) h inside))) was);
+    }

@@ -1,0 +1,20 @@
+use Rattle.std.proofs.Common.{◌≡◌, length, get_or, sym, ap, ◌∙◌, subst, arith}
+use Rattle.list_words.specs.Store.{Store, MayAdmit}
+use Rattle.list_words.proofs.RowLaws.{open_row}
+use Rattle.chunk_lists.specs.Keepers.{KnownIn, store_of}
+use Rattle.chunk_lists.specs.Knives.{lists_of}
+use Rattle.chunk_lists.proofs.Knowing.{grant_rows_long}
+use Rattle.chunk_lists.proofs.knife.KnifeLeafLists.admit.Goals as goal
+
+pub new-requires-clause-within : goal.new-requires-clause-within
+new-requires-clause-within c k d lt =
+    let gs = c.args.grants.now in
+    let old = c.self.inside.keeper in
+    let may = subst (λ v. MayAdmit (lists_of v) gs) (sym c.self.view_is) c.requires in
+    let low = open_row (store_of old) (get_or gs k d).list (may.takes k d lt).0 in
+    let rows : length (store_of c.lend-seat.new.self).rows ≡ length (store_of old).rows = ap (λ (s : Store). length s.rows) c.lend-seat.ensures.store ∙ grant_rows_long gs (store_of old).rows in
+    let lists = c.shared-lists.ensures.lists in
+    omega (arith, low, rows, lists)
+
+pub returns-clause-known : goal.returns-clause-known
+returns-clause-known c h x q = c.lend-seat.ensures.known h x (subst (λ k. KnownIn k.keeper h x) (sym c.self.view_is) q)

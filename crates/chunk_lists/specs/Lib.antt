@@ -1,0 +1,4 @@
+pub mod Keepers
+pub mod Sweeps
+pub mod Wipes
+pub mod Knives

@@ -1,4 +1,5 @@
 pub mod Rows
+pub mod Sent
 pub mod Ties
 pub mod Chunks
 pub mod Granting

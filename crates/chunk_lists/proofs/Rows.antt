@@ -1,9 +1,9 @@
 -- The rows of a store, by the rows of a book and the notes.
-use Rattle.std.proofs.Common.{◌≡◌, ℕ, zero, suc, ◌+◌, cond, sum_by, List, [], ◌∷◌, length, get_or, set, refl, sym, ap, ◌∙◌, arith}
+use Rattle.std.proofs.Common.{◌≡◌, ℕ, zero, suc, ◌+◌, cond, sum_by, List, [], ◌∷◌, length, get_or, set, replicate, refl, sym, ap, ◌∙◌, arith}
 use Rattle.std.proofs.lemmas.List.{length-append}
 use Rattle.std.proofs.lemmas.List.Sums.{sum_by-cons}
-use Rattle.list_words.specs.Store.{Row, row_in, held_in, is_shut}
-use Rattle.list_book.specs.Books.{BookRow, row_at, row_held}
+use Rattle.list_words.specs.Store.{Row, no_row, row_in, held_in, is_shut}
+use Rattle.list_book.specs.Books.{BookRow, fresh_row, row_at, row_held}
 use Rattle.list_table.specs.Ledgers.{no_notes}
 use Rattle.list_table.specs.declared.views.Notes.{Notes}
 use Rattle.chunk_lists.specs.Keepers.{row_of, rows_of}
@@ -34,3 +34,8 @@ pub held-rows : (rs : List BookRow) (ts : List Notes) → length ts ≡ length r
 held-rows [] ts e = refl
 held-rows (r ∷ rs) [] e = absurd (omega arith)
 held-rows (r ∷ rs) (t ∷ ts) e = sum_by-cons held_in (row_of r t) (rows_of rs ts) ∙ ((λ i. held_row r t i + held-rows rs ts (omega arith) i) ∙ sym (sum_by-cons row_held r rs))
+
+-- the rows of lists that were never opened
+pub rows_fresh : (n : ℕ) → rows_of (replicate n fresh_row) (replicate n no_notes) ≡ replicate n no_row
+rows_fresh zero = refl
+rows_fresh (suc n) = ap (λ (xs : List Row). no_row ∷ xs) (rows_fresh n)

@@ -1,7 +1,7 @@
 -- The owner of lists with room for the next filer, as lists show it.
-use Rattle.std.specs.Prelude.{◌≡◌, ℕ, ◌<◌, List, ◌∷◌, slice_index}
+use Rattle.std.specs.Prelude.{ℕ, ◌<◌, List, [], ◌∷◌, slice_index, replicate}
 use Rattle.list_machine.specs.declared.views.Fact.TheVariants.{Item}
-use Rattle.list_words.specs.Store.{Seat, Store}
+use Rattle.list_words.specs.Store.{Seat, Store, no_row}
 use Rattle.list_table.specs.Ledgers.{Knows}
 use Rattle.list_table.specs.Tables.{GuestValue}
 use Rattle.chunk_lists.specs.Keepers.{KeeperValue, store_of}
@@ -23,6 +23,10 @@ with_room s grants items = record s { name = full_name s.name; grants_room = gra
 -- the lists as one store
 abbrev pub lists_of : KnifeValue → Store
 lists_of k = with_room (store_of k.keeper) k.grants k.items
+
+-- lists of this name that were never opened, and free chunks
+abbrev pub fresh_store : List ℕ → ℕ → ℕ → Store
+fresh_store name lists chunks = record { name = name; chunks = chunks; rows = replicate lists no_row; free = chunks; order = []; cleared = 0; out = 0 ∷ []; grants_room = 0; items_room = 0; given = 0 }
 
 -- who a reader is
 abbrev pub seat_of : GuestValue → Seat

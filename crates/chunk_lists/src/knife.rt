@@ -1,6 +1,8 @@
-ghost use Rattle.std.specs.Prelude.{◌≡◌, ◌≤◌, IfOk};
+ghost use Rattle.std.specs.Prelude.{◌≡◌, ◌≤◌, IfOk, IsTrue};
 ghost use Rattle.list_book.specs.Books.{fresh_book};
 ghost use Rattle.list_table.specs.Ledgers.{opening_ledger};
+ghost use Rattle.list_filers.specs.Filers.{shared_name};
+ghost use Rattle.chunk_lists.specs.Knives.{fresh_store, lists_of};
 
 use crate::keeper::Keeper;
 use list_filers::{Filer, FilerRoom, Reader};
@@ -39,8 +41,10 @@ impl Knife {
         requires chunks { chunks ≤ 1000000 }
         ensures lists { IfOk result (λ r. (r.0.value.lists ≡ lists) × (r.0.value.chunks ≡ chunks)) }
         ensures knife { IfOk result (λ r. r.1 ≡ record { keeper = record { name = r.0.value.name; ledger = opening_ledger lists; book = fresh_book lists chunks }; grants = 0; items = 0 }) }
+        ensures store { IfOk result (λ r. lists_of r.1 ≡ fresh_store (shared_name r.0.value) lists chunks) }
     {
         let (shared, keeper) = Keeper::new(alloc, lists, chunks)?;
+        shared.name_tells_size();
         let room = FilerRoom::new(alloc);
         Ok((shared, Knife { keeper, room }))
     }
@@ -113,7 +117,9 @@ impl LeafLists for Knife {
     }
 
     /// Each filer is vouched for: the facts of its seat bear its answers out.
-    fn vouches(&self, _filer: &Filer) -> bool {
+    fn vouches(&self, _filer: &Filer) -> bool
+        ensures { IsTrue result }
+    {
         true
     }
 

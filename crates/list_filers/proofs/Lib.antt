@@ -1,5 +1,6 @@
 pub mod Filings
 pub mod Going
+pub mod Sent
 pub mod Shown
 pub mod Starts
 pub mod Uses

@@ -1,4 +1,4 @@
-use Rattle.std.proofs.Common.{◌≡◌, ℕ, ◌<◌, List, length, get_or, Some, refl, sym, ap, ◌∙◌, subst, arith, Contains}
+use Rattle.std.proofs.Common.{◌≡◌, sym, subst}
 use Rattle.list_machine.specs.Steps.{open_facts}
 use Rattle.list_machine.specs.declared.views.Fact.TheVariants.{Item}
 use Rattle.list_words.specs.Store.{row}

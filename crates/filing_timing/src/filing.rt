@@ -1,0 +1,85 @@
+ghost use Rattle.std.specs.Prelude.{◌≡◌, ◌<◌, ◌*◌, ◌≤◌, All, IfOk};
+ghost use Rattle.list_filers.specs.Filers.{shared_name};
+
+use crate::task::Task;
+use chunk_lists::Lists;
+use list_words::{Answer, Filed};
+use std::alloc::{AllocError, Global};
+use std::sync::Arc;
+use std::thread::Threads;
+use std::time::{Clock, Duration, Instant};
+use worked_lists::{Crew, Worker, file_at_once, hire, lay_out};
+
+/// More items than a worker has places for.
+const MOST_ITEMS: u32 = 1 << 26;
+
+/// Files as many items as there are places for, in the way of the task. Tells how many came to stand, and how long it
+/// took.
+pub fn filed<R: Clock + Threads + Sync + AllocGlobal>(
+    rt: &R,
+    task: &Task,
+) -> Result<(usize, Duration), &'static str> {
+    let Task {
+        threads,
+        lists,
+        chunks,
+    } = *task;
+    if threads == 0 || threads > 64 || lists == 0 || lists > 1000 {
+        return Err("the number of threads or lists is 0 or too large");
+    }
+    if chunks > 1_000_000 || chunks > 1_000_000 / lists {
+        return Err("there are too many chunks");
+    }
+    let (lists, workers) = begin(rt.alloc(), threads, lists, chunks)
+        .ok()
+        .ok_or("out of memory")?;
+    let start = Instant::now(rt).ok().ok_or("no clock")?;
+    let workers = file_at_once(rt, &lists, workers)
+        .ok()
+        .ok_or("out of memory")?;
+    let took = start.elapsed(rt).ok().ok_or("no clock")?;
+    Ok((standing(workers.as_slice()), took))
+}
+
+/// Lists with places for all items, and workers who share them.
+fn begin(
+    alloc: Global,
+    threads: u32,
+    lists: u32,
+    chunks: u32,
+) -> Result<(Arc<Lists, Global>, Vec<Worker>), AllocError>
+    requires threads { (0 < threads) × (threads ≤ 64) }
+    requires lists { lists ≤ 1000 }
+    requires chunks { chunks ≤ 1000000 }
+    requires all { lists * chunks ≤ 1000000 }
+    ensures { IfOk result (λ r. All (λ w. w.name ≡ shared_name r.0.value) r.1.items) }
+{
+    let (shared, mut knife) = lay_out(alloc, lists, chunks)?;
+    let crew = Crew {
+        lists,
+        places: 256 * chunks / threads,
+        workers: threads,
+        first: 0,
+        share: MOST_ITEMS,
+        seed: 1,
+    };
+    let workers = hire(alloc, &mut knife, crew)?;
+    Ok((shared, workers))
+}
+
+/// How many items came to stand.
+fn standing(workers: &[Worker]) -> usize {
+    let mut count = 0usize;
+    for worker in workers {
+        count = count.saturating_add(at_home(worker.answers()));
+    }
+    count
+}
+
+/// How many answers are that an item stands.
+fn at_home(answers: &[Answer]) -> usize {
+    answers
+        .iter()
+        .filter(|answer| matches!(answer.filed, Filed::At { .. }))
+        .count()
+}

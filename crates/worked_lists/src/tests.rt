@@ -1,0 +1,4 @@
+mod crowded;
+mod lives;
+mod owned;
+mod pair;

@@ -1,0 +1,63 @@
+//! Two filers in two threads, with a place each in one chunk.
+ghost use Rattle.std.specs.Prelude.{◌≡◌, All, IfOk, length};
+ghost use Rattle.list_filers.specs.Filers.{shared_name};
+ghost use Rattle.chunk_lists.specs.Knives.{lists_of};
+
+use crate::{Crew, Owner, Worker, file_at_once, hire, lay_out, note_standing};
+use chunk_lists::Lists;
+use list_words::{Answer, Filed};
+use std::alloc::{AllocError, Global};
+use std::sync::Arc;
+use std::test::Fail;
+
+/// The items 7 and 8.
+const PAIR: Crew = Crew {
+    lists: 1,
+    places: 1,
+    workers: 2,
+    first: 7,
+    share: 1,
+    seed: 0,
+};
+
+/// Two filers with a place each in the one chunk of a list, and a reader.
+fn begin(alloc: Global) -> Result<(Arc<Lists, Global>, Owner, Vec<Worker>), AllocError>
+    ensures rows { IfOk result (λ r. length (lists_of r.1.knife).rows ≡ 1) }
+    ensures name { IfOk result (λ r. (lists_of r.1.knife).name ≡ shared_name r.0.value) }
+    ensures reader { IfOk result (λ r. r.1.reader.name ≡ r.0.value.name) }
+    ensures workers { IfOk result (λ r. All (λ w. w.name ≡ shared_name r.0.value) r.2.items) }
+{
+    let (lists, mut knife) = lay_out(alloc, 1, 1)?;
+    let workers = hire(alloc, &mut knife, PAIR)?;
+    let owner = Owner::new(alloc, &lists, knife, 9)?;
+    Ok((lists, owner, workers))
+}
+
+/// The slot of the first answer, if that is that this item stands in the chunk 0.
+fn slot_of(answers: &[Answer], wanted: u32) -> Option<u32> {
+    let Answer { item, filed, .. } = answers.first().copied()?;
+    match filed {
+        Filed::At { chunk: 0, slot } if item == wanted => Some(slot),
+        _ => None,
+    }
+}
+
+#[test]
+fn two_filers_at_once_get_a_slot_each_and_a_reader_finds_both(rt: HostRuntime) -> Result<(), Fail> {
+    let (lists, mut owner, workers) = begin(rt.alloc())?;
+    let workers = file_at_once(&rt, &lists, workers)?;
+    let first = workers
+        .first()
+        .and_then(|worker| slot_of(worker.answers(), 7));
+    let second = workers
+        .get(1)
+        .and_then(|worker| slot_of(worker.answers(), 8));
+    let in_order = first == Some(0) && second == Some(1);
+    let turned = first == Some(1) && second == Some(0);
+    assert!(rt; in_order || turned, "7 at {first:?}, 8 at {second:?}");
+    note_standing(&mut owner, &lists, 0, 1);
+    assert_eq!(rt; owner.homes.lists.get(7), Some(&Some(0)));
+    assert_eq!(rt; owner.homes.lists.get(8), Some(&Some(0)));
+    assert_eq!(rt; owner.homes.count(), 2);
+    Ok(())
+}

@@ -11,7 +11,7 @@ use Rattle.list_filers.specs.contracts.readers.Reader as Reader
 use Rattle.list_filers.specs.contracts.readers.Reader.TheInside as ReaderInside
 
 ways_fields : AllSend (shape WaysInside.the_type).fields
-ways_fields = (search (sendable, crosses, lists_cross) depth 40, (guest_send, (search (sendable, crosses) depth 40, (search sendable, tt))))
+ways_fields = (search (sendable, crosses, lists_cross) depth 40, (guest_send, (search (sendable, crosses) depth 40, (search sendable, (search (sendable, crosses) depth 40, tt)))))
 
 ways_send : IsSend Ways.the_row
 ways_send = view_send WaysInside.the_row _ _ _ _ (recorded_send WaysInside.the_field.row _ _ WaysInside.the_type.to_one (struct_send (shape WaysInside.the_type) ways_fields))

@@ -54,8 +54,21 @@ impl Cursor {
     }
 }
 
-/// The place of the list's cursor.
-pub(crate) fn find(cursors: &[Cursor], list: u32) -> usize
+/// The place of the list's cursor, which the guess may be already.
+pub(crate) fn find_by(cursors: &[Cursor], guess: usize, list: u32) -> usize
+    requires sorted { AreSorted cursors.now }
+    requires there { HasCursor cursors.now list }
+    ensures { (a : Cursor) × IsAt cursors.now result a × (a.list ≡ list) }
+{
+    if guess < cursors.len() && cursors[guess].list == list {
+        guess
+    } else {
+        find(cursors, list)
+    }
+}
+
+/// The place of the list's cursor, by halving.
+fn find(cursors: &[Cursor], list: u32) -> usize
     requires sorted { AreSorted cursors.now }
     requires there { HasCursor cursors.now list }
     ensures { (a : Cursor) × IsAt cursors.now result a × (a.list ≡ list) }

@@ -9,7 +9,7 @@ ghost use Rattle.list_filers.specs.Cursors.{AreSorted, HasCursor, next_rank, cur
 ghost use Rattle.list_filers.specs.Ways.{at_start, Stands, IsReady, IsShort, answer_of, HasReached, HasFiled, after_link, ways_with};
 ghost use Rattle.list_filers.specs.declared.cursors.Cursor.{Cursor};
 
-use crate::cursors::{Cursor, Reached, find};
+use crate::cursors::{Cursor, Reached, find_by};
 use list_machine::Claimed;
 use list_table::{GuestSeat, SharedLists};
 use list_words::{Filed, Seen};
@@ -21,13 +21,18 @@ use step_count::Steps;
 /// How many slots a chunk has.
 const SLOTS: u64 = 256;
 
-/// A filer on its ways.
+/// How many places of cursors are kept at hand.
+const HINTS: usize = 256;
+
+/// A filer on its ways. The places of cursors that were found last are kept at hand by the low bits of their lists:
+/// each is a guess, which is tried before the cursors are searched.
 #[derive(Drop)]
 pub(crate) struct Ways {
     pub(crate) lists: Snapshot<SharedLists>,
     pub(crate) seat: GuestSeat,
     pub(crate) cursors: Vec<Cursor>,
     pub(crate) walked: u32,
+    pub(crate) hints: [usize; HINTS],
 }
 
 impl Model for Ways {
@@ -54,6 +59,7 @@ impl Ways {
             seat,
             cursors,
             walked: 0,
+            hints: [0; HINTS],
         }
     }
 
@@ -77,7 +83,14 @@ impl Ways {
         requires there { HasCursor self.now.cursors list }
         ensures { (a : Cursor) × IsAt self.now.cursors result a × (a.list ≡ list) × Stands self.now.lists.chunks self.now.guest self.now.walked a.list a.reached }
     {
-        find(&self.cursors, list)
+        find_by(&self.cursors, self.hints[list as usize % HINTS], list)
+    }
+
+    /// Keeps the place of the list's cursor at hand.
+    fn remember(&mut self, list: u32, at: usize)
+        ensures { self.new ≡ self.old }
+    {
+        self.hints[list as usize % HINTS] = at;
     }
 
     /// Claims the next place of the list.
@@ -194,6 +207,29 @@ impl Ways {
         ensures steps { steps.new + self.old.walked ≤ steps.old + 2 + self.new.walked }
     {
         let at = self.find(list);
+        self.remember(list, at);
+        self.file_at(lists, at, list, item, steps)
+    }
+
+    /// The same, with the place of the list's cursor.
+    fn file_at<L: Ledger>(
+        &mut self,
+        lists: &SharedLists,
+        at: usize,
+        list: u32,
+        item: u32,
+        steps: &mut Steps<L>,
+    ) -> Filed
+        requires lists { self.old.lists ≡ lists.now }
+        requires ready { IsReady self.old.guest self.old.cursors }
+        requires granted { 0 < left_in list self.old.guest.grants }
+        requires cursor { (a : Cursor) × IsAt self.old.cursors at a × (a.list ≡ list) × Stands self.old.lists.chunks self.old.guest self.old.walked a.list a.reached }
+        ensures filed { HasFiled self.old self.new list item result }
+        ensures rises { self.old.walked ≤ self.new.walked }
+        ensures most { self.new.walked ≤ self.new.lists.chunks }
+        ensures counts { steps.old ≤ steps.new }
+        ensures steps { steps.new + self.old.walked ≤ steps.old + 2 + self.new.walked }
+    {
         let Claimed::Index(place) = self.claim(lists, list, steps) else {
             self.walks_are_short();
             return Filed::Late { seen: Seen::Shut };

@@ -1,5 +1,6 @@
 ghost use Rattle.std.specs.Prelude.{◌≡◌, ◌≤◌, ◌+◌, ◌<◌, ◌^◌, ◌++◌, List, [], IfOk, IfErr, length};
 ghost use Rattle.cube_math.specs.Points.{PointValue};
+ghost use Rattle.leaf_counts.specs.Nodes.{node_total};
 ghost use Rattle.leaf_counts.specs.Plans.{IsRefused};
 ghost use Rattle.octree_model.specs.Counts.{nodes};
 ghost use Rattle.octree_model.specs.Octree.{octree};
@@ -85,6 +86,7 @@ impl Levels {
         requires cube { batch.now.cube ≡ self.skeleton.cube }
         requires few { self.total + length batch.now.points < 2 ^ 32 }
         ensures after { (points : List PointValue) → AreAllOf self points → IfOk result (λ levels. levels ≡ levels_of self.skeleton.leaf self.skeleton.cube (points ++ batch.now.points)) }
+        ensures within { IfOk result (λ levels. node_total levels.skeleton.counts ≤ most) }
         ensures refused { (points : List PointValue) → AreAllOf self points → IfErr result (λ refusal. IsRefused refusal (nodes (octree self.skeleton.leaf self.skeleton.cube (points ++ batch.now.points))) most) }
     {
         let Levels {

@@ -1,5 +1,6 @@
-use Rattle.std.proofs.Common.{◌≡◌, ◌+◌, ◌<◌, ◌^◌, ◌∙◌, ◌++◌, ap, sym, subst, arith, length, List}
+use Rattle.std.proofs.Common.{◌≡◌, ◌+◌, ◌<◌, ◌≤◌, ◌^◌, ◌∙◌, ◌++◌, ap, sym, subst, arith, length, List}
 use Rattle.cube_math.specs.Points.{PointValue}
+use Rattle.leaf_counts.specs.Nodes.{node_total}
 use Rattle.leaf_counts.specs.Overfull.{overfull}
 use Rattle.leaf_counts.specs.Plans.{IsPublished, IsRefused}
 use Rattle.leaf_counts.specs.declared.plan.PlanRefusal.{PlanRefusal}
@@ -79,3 +80,7 @@ returns-in_err-plan-clause-refused c =
     let Q : LevelsValue → PlanRefusal → Type 0 = λ v refusal. IsRefused refusal (nodes (octree v.skeleton.leaf v.skeleton.cube (ps ++ batch))) c.args.most in
     refused_too c.from_residual-in_err-plan.result c.in_err-plan.field-0.0 (Q c.args.self) c.from_residual-in_err-plan.ensures.1
     (subst (λ (v : LevelsValue). Q v c.in_err-plan.field-0.0) c.self.view_is (c.in_err-plan.ensures.refused ps due))
+
+pub returns-clause-within : goal.returns-clause-within
+returns-clause-within c =
+    subst (λ n. n ≤ c.args.most) (c.in_ok-plan.ensures.of.total ∙ ap (λ (s : SkeletonValue). node_total s.counts) (sym c.commit.ensures)) c.in_ok-plan.ensures.within

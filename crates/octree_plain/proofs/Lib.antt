@@ -1,8 +1,8 @@
 pub mod Children
 pub mod DescentLaws
 pub mod FittingLaws
+pub mod LeastKeys
 pub mod ListingLaws
-pub mod Nearest
 pub mod NodeLaws
 pub mod SpreadLaws
 pub mod Words

@@ -1,8 +1,8 @@
-ghost use Rattle.std.specs.Prelude.{◌≡◌, ◌<◌, ◌^◌, [], All, IsTrue, IfOk, OnOk, length, map, nat_lt};
+ghost use Rattle.std.specs.Prelude.{◌≡◌, ◌<◌, ◌^◌, ◌%◌, [], All, IsTrue, IfOk, OnOk, length, map, slice_index};
 ghost use Rattle.cube_math.specs.Cubes.{contains, cell, key};
 ghost use Rattle.octree_model.specs.Numbers.{ascending};
 ghost use Rattle.octree_model.specs.Voxels.{voxels};
-ghost use Rattle.octree_plain.specs.Sampling.{HasNearest};
+ghost use Rattle.octree_plain.specs.Sampling.{HasLeastKeys};
 
 use crate::cell_set::CellSet;
 use cube_math::{Cube, Point};
@@ -18,8 +18,8 @@ const CELLS: usize = 2_097_152;
 #[derive(Drop)]
 pub struct Sampler {
     cells: CellSet,
-    /// For each of these cells, the place of the point that is the nearest to the cell's middle.
-    nearest: Vec<usize>,
+    /// For each of these cells, the least key of the points that fall in it.
+    least_keys: Vec<u128>,
 }
 
 impl Model for Sampler {
@@ -29,7 +29,7 @@ impl Model for Sampler {
 
     ghost view = { λ s. s.cells };
 
-    ghost invariant = { λ s. length s.nearest.items ≡ 2097152 };
+    ghost invariant = { λ s. length s.least_keys.items ≡ 2097152 };
 }
 
 impl Sampler {
@@ -38,7 +38,7 @@ impl Sampler {
     {
         Ok(Sampler {
             cells: CellSet::new(alloc)?,
-            nearest: vec![in alloc; 0; CELLS]?,
+            least_keys: vec![in alloc; 0; CELLS]?,
         })
     }
 
@@ -55,67 +55,53 @@ impl Sampler {
         ensures voxels { IfOk result (λ found. found.items ≡ voxels cube.now points.now) }
         ensures between_nodes { OnOk result (self.new ≡ []) }
     {
-        sample(&mut self.cells, &mut self.nearest, cube, points);
+        sample(&mut self.cells, &mut self.least_keys, cube, points);
         let cells = self.cells.take(alloc)?;
-        coloured(alloc, &cells, &self.nearest, cube, points)
+        coloured(alloc, &cells, &self.least_keys)
     }
 }
 
-/// Finds the cells in which points fall, and for each of them the nearest point.
-fn sample(cells: &mut CellSet, nearest: &mut [usize], cube: &Cube, points: &[Point])
+/// Finds the cells in which points fall, and the least key of each of them.
+fn sample(cells: &mut CellSet, least_keys: &mut [u128], cube: &Cube, points: &[Point])
     requires empty { cells.old ≡ [] }
-    requires each_cell { length nearest.old ≡ 2097152 }
+    requires each_cell { length least_keys.old ≡ 2097152 }
     requires contained { All (λ p. IsTrue (contains cube.now p)) points.now }
     requires splits { 7 < cube.now.bits }
     ensures cells { cells.new ≡ ascending (map (cell cube.now) points.now) }
-    ensures nearest { HasNearest cube.now points.now nearest.new }
+    ensures least_keys { HasLeastKeys cube.now points.now least_keys.new }
 {
-    for (i, p) in points.iter().enumerate() {
+    for p in points {
         let cell = cube.cell(p);
         let at = cell as usize;
+        let key = key_of(cube, p);
         let is_new = cells.insert(cell);
-        if is_new || is_nearer(cube, p, &points[nearest[at]]) {
-            nearest[at] = i;
+        if is_new || key < least_keys[at] {
+            least_keys[at] = key;
         }
     }
 }
 
-/// Whether the key of `p` is less than that of `q`.
-fn is_nearer(cube: &Cube, p: &Point, q: &Point) -> bool
-    requires p_contained { IsTrue (contains cube.now p.now) }
-    requires q_contained { IsTrue (contains cube.now q.now) }
+/// The key of a point in its cell.
+fn key_of(cube: &Cube, p: &Point) -> u128
+    requires contained { IsTrue (contains cube.now p.now) }
     requires splits { 7 < cube.now.bits }
-    ensures { result ≡ nat_lt (key cube.now p.now) (key cube.now q.now) }
+    ensures { result ≡ key cube.now p.now }
 {
-    let p_far = cube.far(p);
-    let q_far = cube.far(q);
-    if p_far == q_far {
-        p.rgb < q.rgb
-    } else {
-        p_far < q_far
-    }
+    (u128::from(cube.far(p)) << 24) + u128::from(p.rgb)
 }
 
-/// The voxels of the cells, each with the colour of its nearest point. The cube is there for the contract.
-fn coloured(
-    alloc: Global,
-    cells: &[u32],
-    nearest: &[usize],
-    cube: &Cube,
-    points: &[Point],
-) -> Result<Vec<Voxel>, AllocError>
-    requires cells { cells.now ≡ ascending (map (cell cube.now) points.now) }
-    requires nearest { HasNearest cube.now points.now nearest.now }
-    requires each_cell { length nearest.now ≡ 2097152 }
-    ensures { IfOk result (λ found. found.items ≡ voxels cube.now points.now) }
+/// The cells as voxels, each with the colour of its least key.
+fn coloured(alloc: Global, cells: &[u32], least_keys: &[u128]) -> Result<Vec<Voxel>, AllocError>
+    requires cells { All (λ z. z < 2 ^ 21) cells.now }
+    requires each_cell { length least_keys.now ≡ 2097152 }
+    ensures { IfOk result (λ found. found.items ≡ map (λ z. record { cell = z; rgb = slice_index least_keys.now z % 2 ^ 24 }) cells.now) }
 {
-    let _ = cube;
     let mut found = Vec::with_capacity(alloc, cells.len())?;
     for cell in cells {
-        let p = &points[nearest[*cell as usize]];
+        let key = least_keys[*cell as usize];
         found.push(Voxel {
             cell: *cell,
-            rgb: p.rgb,
+            rgb: (key % (1 << 24)) as u32,
         })?;
     }
     Ok(found)

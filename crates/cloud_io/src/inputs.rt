@@ -1,4 +1,4 @@
-ghost use Rattle.std.specs.Prelude.{◌≡◌, ℕ, ◌≤◌, Option, IsSome};
+ghost use Rattle.std.specs.Prelude.{◌≡◌, ℕ, Option, IsSome};
 ghost use Rattle.std.specs.Io.{ReadsAtMost};
 ghost use Rattle.cloud_io.specs.Counts.{HasCause, HasCauses};
 
@@ -6,9 +6,9 @@ use crate::faults::{Failed, OpenFault};
 
 /// Files that can be read, by their names.
 ///
-/// A count of faults and a count of missing names tell why a call failed: they never fall, and such an
-/// answer comes only where its count rose. A count that stands at 2^64 - 1, the end of its type, counts
-/// as risen.
+/// A count of faults and a count of missing names tell why a call failed: each rises by one at such an
+/// answer, and stays at every other. A count that stands at 2^64 - 1, the end of its type, counts as
+/// risen.
 pub trait Inputs: Send {
     ghost use Rattle.cloud_io.specs.Files.{Folder, Opened, AgreesWith, Opens, Gives, Moves};
 
@@ -40,6 +40,6 @@ pub trait Inputs: Send {
         ensures bound { ReadsAtMost result buf.new }
         ensures moves { Moves (opened self.old) (opened self.new) file result }
         ensures gives { Gives (files self.old) (opened self.old) file result buf.new }
-        ensures missing { missing self.old ≤ missing self.new }
+        ensures missing { missing self.new ≡ missing self.old }
         ensures cause { HasCause (faults self.old) (faults self.new) result };
 }

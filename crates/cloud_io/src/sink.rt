@@ -7,8 +7,8 @@ use crate::faults::Failed;
 
 /// What takes bytes, and appends them to those that it has.
 ///
-/// A count of faults, which never falls, tells of failed calls. A count that stands at 2^64 - 1, the end
-/// of its type, counts as risen.
+/// A count of faults rises by one at each call that fails, and stays at every other. A count that stands
+/// at 2^64 - 1, the end of its type, counts as risen.
 pub trait Sink {
     /// The bytes that it holds, or None where they are not told.
     ghost contents: { Self → Option (List ℕ) };

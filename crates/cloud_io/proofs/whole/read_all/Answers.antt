@@ -1,5 +1,5 @@
 use Rattle.std.proofs.Common.{arith, inr, Global, ℕ, ◌+◌, ◌++◌, take, Some, ◌≡◌, ◌∙◌, ap, sym, refl, length}
-use Rattle.cloud_io.proofs.Endings.{err_is, told_unopened, place_unopened, causes_unopened, quiet_ok, quiet_memory, quiet_too_long, others_more}
+use Rattle.cloud_io.proofs.Endings.{err_is, told_unopened, place_unopened, causes_unopened, causes_failed, quiet_ok, quiet_memory, quiet_too_long, others_more}
 use Rattle.cloud_io.proofs.Prefixes.{begun_none, begun_more, begun_whole, begun_long, grown, stands_more}
 use Rattle.cloud_io.proofs.whole.read_all.Goals as goal
 
@@ -29,8 +29,8 @@ loop-bytes-init g c = record {
   stands = c.in_ok-file.ensures.opens.0 ∙ ap (λ (k : ℕ). Some (c.args.name.now, k)) (sym (ap length c.new-bytes.ensures.items));
   others = c.in_ok-file.ensures.opens.1;
   begun = rw c.new-bytes.ensures.items (begun_none (g.I.Inputs.files c.args.inputs.now) c.args.name.now c.in_ok-file.ensures.agrees);
-  faults_later = c.in_ok-file.ensures.causes.faults_later;
-  missing_later = c.in_ok-file.ensures.causes.missing_later;
+  faults = c.in_ok-file.ensures.causes.faults_calm (λ e. cc);
+  missing = c.in_ok-file.ensures.causes.missing_calm (λ e. cc);
 }
 
 -- a read failed
@@ -50,12 +50,8 @@ returns-in_err-n-clause-place g c =
 pub returns-in_err-n-clause-causes : goal.returns-in_err-n-clause-causes
 returns-in_err-n-clause-causes g c =
     let kept = c.loop-bytes.invariant in
-    rw (err_is _ _ c.from_residual-in_err-n.ensures.1) record {
-      faults_later = omega (arith, kept.faults_later, c.in_err-n.ensures.cause.later);
-      missing_later = omega (arith, kept.missing_later, c.in_err-n.ensures.missing);
-      failed_rose = λ e. omega (arith, kept.faults_later, c.in_err-n.ensures.cause.failed);
-      no_file_rose = λ e. cc;
-    }
+    rw (err_is _ _ c.from_residual-in_err-n.ensures.1)
+    (causes_failed _ _ _ _ _ _ _ _ kept.faults kept.missing c.in_err-n.ensures.cause c.in_err-n.ensures.missing)
 
 -- a read gave nothing, which is the end
 pub returns-then-n-eq0-clause-told : goal.returns-then-n-eq0-clause-told
@@ -79,7 +75,7 @@ returns-then-n-eq0-clause-place g c =
 pub returns-then-n-eq0-clause-causes : goal.returns-then-n-eq0-clause-causes
 returns-then-n-eq0-clause-causes g c =
     let kept = c.loop-bytes.invariant in
-    quiet_ok _ _ _ _ _ (omega (arith, kept.faults_later, c.in_ok-n.ensures.cause.later)) (omega (arith, kept.missing_later, c.in_ok-n.ensures.missing))
+    quiet_ok _ _ _ _ _ (c.in_ok-n.ensures.cause.calm ∙ kept.faults) (c.in_ok-n.ensures.missing ∙ kept.missing)
 
 -- there was no memory for what a read gave
 pub returns-in_err-extend_from_slice-clause-place : goal.returns-in_err-extend_from_slice-clause-place
@@ -91,7 +87,7 @@ pub returns-in_err-extend_from_slice-clause-causes : goal.returns-in_err-extend_
 returns-in_err-extend_from_slice-clause-causes g c =
     let kept = c.loop-bytes.invariant in
     rw (err_is _ _ c.from_residual-in_err-extend_from_slice.ensures.1)
-    (quiet_memory _ _ _ _ _ (omega (arith, kept.faults_later, c.in_ok-n.ensures.cause.later)) (omega (arith, kept.missing_later, c.in_ok-n.ensures.missing)))
+    (quiet_memory _ _ _ _ _ (c.in_ok-n.ensures.cause.calm ∙ kept.faults) (c.in_ok-n.ensures.missing ∙ kept.missing))
 
 -- a read gave more than is left of the limit
 pub returns-then-len-n-clause-told : goal.returns-then-len-n-clause-told
@@ -123,7 +119,7 @@ returns-then-len-n-clause-place g c =
 pub returns-then-len-n-clause-causes : goal.returns-then-len-n-clause-causes
 returns-then-len-n-clause-causes g c =
     let kept = c.loop-bytes.invariant in
-    quiet_too_long _ _ _ _ _ _ (omega (arith, kept.faults_later, c.in_ok-n.ensures.cause.later)) (omega (arith, kept.missing_later, c.in_ok-n.ensures.missing))
+    quiet_too_long _ _ _ _ _ _ (c.in_ok-n.ensures.cause.calm ∙ kept.faults) (c.in_ok-n.ensures.missing ∙ kept.missing)
 
 -- the next turn
 pub loop-bytes-preserved : goal.loop-bytes-preserved
@@ -140,6 +136,6 @@ loop-bytes-preserved g c =
       others = others_more _ _ _ _ kept.others c.in_ok-n.ensures.moves.1;
       begun = begun_more (g.I.Inputs.files c.args.inputs.now) (g.I.Inputs.files c.loop-bytes.inputs) (g.I.Inputs.opened c.loop-bytes.inputs) c.in_ok-file.file c.args.name.now c.loop-bytes.bytes.items
           c.read.new.buf new.items c.in_ok-n.n kept.files kept.begun kept.stands c.in_ok-n.ensures.bound.0 c.in_ok-n.ensures.gives c.in_ok-extend_from_slice.ensures.items;
-      faults_later = omega (arith, kept.faults_later, c.in_ok-n.ensures.cause.later);
-      missing_later = omega (arith, kept.missing_later, c.in_ok-n.ensures.missing);
+      faults = c.in_ok-n.ensures.cause.calm ∙ kept.faults;
+      missing = c.in_ok-n.ensures.missing ∙ kept.missing;
     }

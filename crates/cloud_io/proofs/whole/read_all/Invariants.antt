@@ -12,8 +12,8 @@ invariant-loop-bytes g l = record {
   stands : g.I.Inputs.opened l.inputs l.file ≡ Some (l.name, length l.bytes.items);
   others : SameElsewhere l.file (g.I.Inputs.opened l.fn.inputs) (g.I.Inputs.opened l.inputs);
   begun : HasBegun (g.I.Inputs.files l.fn.inputs) l.name l.bytes.items;
-  faults_later : g.I.Inputs.faults l.fn.inputs ≤ g.I.Inputs.faults l.inputs;
-  missing_later : g.I.Inputs.missing l.fn.inputs ≤ g.I.Inputs.missing l.inputs;
+  faults : g.I.Inputs.faults l.inputs ≡ g.I.Inputs.faults l.fn.inputs;
+  missing : g.I.Inputs.missing l.inputs ≡ g.I.Inputs.missing l.fn.inputs;
 }
 
 abbrev pub decreases-loop-bytes : goal.decreases-loop-bytes

@@ -2,7 +2,8 @@ use crate::faults::Failed;
 use crate::sink::Sink;
 use std::io::{Stderr, Stdout, Write};
 
-/// A stream of the system. It tells no bytes, and a write that takes nothing of a piece fails.
+/// A stream. It tells the bytes that the stream tells, which are none for the streams of the system. A
+/// write that takes nothing of a piece fails.
 #[derive(Debug, Drop)]
 pub struct StreamSink<W: Write> {
     stream: W,
@@ -18,18 +19,17 @@ pub type StderrSink = StreamSink<Stderr>;
 impl<W: Write> StreamSink<W> {
     ghost use Rattle.std.specs.Prelude.{◌≡◌};
 
-    /// A sink to the stream, and a count of 0.
+    /// A sink to the stream, which holds what the stream holds, and a count of 0.
     pub fn new(stream: W) -> StreamSink<W>
-        ensures { ⟦<StreamSink<W> as Sink>⟧.faults result ≡ 0 }
+        ensures contents { ⟦<StreamSink<W> as Sink>⟧.contents result ≡ W.contents stream }
+        ensures faults { ⟦<StreamSink<W> as Sink>⟧.faults result ≡ 0 }
     {
         StreamSink { stream, faults: 0 }
     }
 }
 
 impl<W: Write> Sink for StreamSink<W> {
-    ghost use Rattle.std.specs.Prelude.{None};
-
-    ghost contents = { λ _. None };
+    ghost contents = { λ s. W.contents s.stream };
 
     ghost faults = { λ s. s.faults };
 

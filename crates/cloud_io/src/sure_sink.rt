@@ -6,7 +6,7 @@ use crate::sink::Sink;
 pub struct SureSink;
 
 impl Sink for SureSink {
-    ghost use Rattle.std.specs.Prelude.{◌≡◌, ◌≤◌, ◌<◌, length, None, Ok, IfOk};
+    ghost use Rattle.std.specs.Prelude.{None};
 
     ghost contents = { λ _. None };
 

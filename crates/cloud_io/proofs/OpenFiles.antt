@@ -15,25 +15,25 @@ use Rattle.cloud_io.specs.declared.named_file.NamedFile.{NamedFile}
 use Rattle.cloud_io.specs.declared.named_file.OpenFile.{OpenFile}
 
 -- the element behind the last
-pub slice_get_last : {X : Type 0} (xs : List X) (y : X) → slice_get (xs ++ y ∷ []) (length xs) ≡ Some y
+slice_get_last : {X : Type 0} (xs : List X) (y : X) → slice_get (xs ++ y ∷ []) (length xs) ≡ Some y
 slice_get_last [] y = refl
 slice_get_last (x ∷ xs) y = slice_get_last xs y
 
 -- the elements before it
-pub slice_get_before : {X : Type 0} (xs : List X) (y : X) (k : ℕ) → k ≢ length xs → slice_get (xs ++ y ∷ []) k ≡ slice_get xs k
+slice_get_before : {X : Type 0} (xs : List X) (y : X) (k : ℕ) → k ≢ length xs → slice_get (xs ++ y ∷ []) k ≡ slice_get xs k
 slice_get_before [] y zero ne = absurd (ne refl)
 slice_get_before [] y (suc k) ne = refl
 slice_get_before (x ∷ xs) y zero ne = refl
 slice_get_before (x ∷ xs) y (suc k) ne = slice_get_before xs y k (λ e. ne (ap suc e))
 
 -- an element that was set
-pub slice_get_set : {X : Type 0} (xs : List X) (i : ℕ) (y : X) → i < length xs → slice_get (set xs i y) i ≡ Some y
+slice_get_set : {X : Type 0} (xs : List X) (i : ℕ) (y : X) → i < length xs → slice_get (set xs i y) i ≡ Some y
 slice_get_set [] i y h = absurd (omega arith)
 slice_get_set (x ∷ xs) zero y h = refl
 slice_get_set (x ∷ xs) (suc i) y h = slice_get_set xs i y (omega arith)
 
 -- the elements beside it
-pub slice_get_beside : {X : Type 0} (xs : List X) (i : ℕ) (y : X) (k : ℕ) → k ≢ i → slice_get (set xs i y) k ≡ slice_get xs k
+slice_get_beside : {X : Type 0} (xs : List X) (i : ℕ) (y : X) (k : ℕ) → k ≢ i → slice_get (set xs i y) k ≡ slice_get xs k
 slice_get_beside [] i y k ne = refl
 slice_get_beside (x ∷ xs) zero y zero ne = absurd (ne refl)
 slice_get_beside (x ∷ xs) zero y (suc k) ne = refl

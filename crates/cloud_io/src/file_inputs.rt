@@ -1,18 +1,13 @@
+ghost use Rattle.std.specs.Prelude.{◌≡◌};
+ghost use Rattle.cloud_io.specs.SystemFiles.{open_fault};
+
 use crate::faults::{Failed, OpenFault};
 use crate::inputs::Inputs;
+use crate::system_file::SystemFile;
 use std::alloc::Global;
 use std::fs;
-use std::io::{ErrorKind, Read};
+use std::io::ErrorKind;
 use std::rt::Files;
-
-/// A file of the system that was opened, and the place in it. It is closed where its end is read, so
-/// that many files can be read one after the other.
-#[derive(Drop)]
-pub struct SystemFile<F> {
-    name: String,
-    file: Option<F>,
-    place: u64,
-}
 
 /// The files of the system. They tell no bytes.
 ///
@@ -31,8 +26,6 @@ impl<R: Files + Send> FileInputs<R>
 where
     R::File: Send,
 {
-    ghost use Rattle.std.specs.Prelude.{◌≡◌};
-
     /// The files that the runtime reaches, and two counts of 0.
     pub fn new(rt: R, alloc: Global) -> FileInputs<R>
         ensures faults { ⟦<FileInputs<R> as Inputs>⟧.faults result ≡ 0 }
@@ -66,43 +59,41 @@ where
     fn open_input(&mut self, name: &str) -> Result<u64, OpenFault> {
         let file = match fs::open(&self.rt, name) {
             Ok(file) => file,
-            Err(error) if error.kind() == ErrorKind::NotFound => {
-                self.missing = self.missing.saturating_add(1);
-                return Err(OpenFault::NoFile);
-            }
-            Err(_) => {
-                self.faults = self.faults.saturating_add(1);
-                return Err(OpenFault::Failed);
+            Err(error) => {
+                let fault = open_fault(error.kind());
+                match fault {
+                    OpenFault::NoFile => self.missing = self.missing.saturating_add(1),
+                    OpenFault::Failed => self.faults = self.faults.saturating_add(1),
+                    OpenFault::Memory => (),
+                }
+                return Err(fault);
             }
         };
         let Ok(name) = String::from_str(self.alloc, name) else {
             return Err(OpenFault::Memory);
         };
         let number = self.opened.len() as u64;
-        match self.opened.push(SystemFile {
-            name,
-            file: Some(file),
-            place: 0,
-        }) {
+        match self.opened.push(SystemFile::new(name, file)) {
             Ok(()) => Ok(number),
             Err(_) => Err(OpenFault::Memory),
         }
     }
 
     fn read(&mut self, file: u64, buf: &mut [u8]) -> Result<usize, Failed> {
-        let opened = &mut self.opened[file as usize];
-        let given = match &mut opened.file {
-            Some(source) => source.read(buf),
-            None => Ok(0),
-        };
-        let Ok(n) = given else {
+        let given = self.opened[file as usize].read(buf);
+        if given.is_err() {
             self.faults = self.faults.saturating_add(1);
-            return Err(Failed);
-        };
-        opened.place = opened.place.saturating_add(n as u64);
-        if n == 0 && !buf.is_empty() {
-            opened.file = None;
         }
-        Ok(n)
+        given
+    }
+}
+
+/// What a failed opening tells of the file.
+fn open_fault(kind: ErrorKind) -> OpenFault
+    ensures { result ≡ open_fault kind }
+{
+    match kind {
+        ErrorKind::NotFound => OpenFault::NoFile,
+        _ => OpenFault::Failed,
     }
 }

@@ -14,6 +14,7 @@ mod sink;
 mod stream_sink;
 mod sure_inputs;
 mod sure_sink;
+mod system_file;
 mod whole;
 
 pub use faults::{Failed, OpenFault, ReadFault};

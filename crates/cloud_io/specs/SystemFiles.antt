@@ -1,5 +1,5 @@
 -- Files of the system that were opened, and what the system tells of those that were not.
-use Rattle.std.specs.Prelude.{ℕ, ◌+◌, ◌-◌, ◌^◌, min, List, [], Option, Some, None, option_map, slice_get, string_bytes, Result, Ok, Err}
+use Rattle.std.specs.Prelude.{ℕ, ◌+◌, ◌-◌, ◌^◌, min, List, [], Option, Some, None, option_map, option_and_then, slice_get, string_bytes, Result, Ok, Err}
 use Rattle.std.specs.declared.io.ErrorKind.{ErrorKind}
 use Rattle.std.specs.declared.io.ErrorKind.TheVariants.{NotFound}
 use Rattle.cloud_io.specs.Files.{Opened}
@@ -15,6 +15,10 @@ places_of opened k = option_map (λ o. (string_bytes o.name, o.place)) (slice_ge
 abbrev pub left_in : {F : Type 0} → (F → Option (List ℕ)) → Option F → Option (List ℕ)
 left_in remaining (Some file) = remaining file
 left_in remaining None = Some []
+
+-- the same of each opened file
+abbrev pub left_of : {F : Type 0} → (F → Option (List ℕ)) → List (SystemFile F) → ℕ → Option (List ℕ)
+left_of remaining opened k = option_and_then (λ o. left_in remaining o.file) (slice_get opened k)
 
 -- the place behind a read, up to the last number of 64 bits; a refusal moves nothing
 abbrev pub behind : {E : Type 0} → ℕ → Result ℕ E → ℕ

@@ -9,7 +9,8 @@ use std::fs;
 use std::io::ErrorKind;
 use std::rt::Files;
 
-/// The files of the system. They tell no bytes.
+/// The files of the system. They tell no names; of an opened file they tell the bytes that its reader
+/// tells.
 ///
 /// A name that the system does not find is a missing file; every other failure is a fault, such as the
 /// opening of a file that may not be read or the reading of a folder.
@@ -46,11 +47,13 @@ where
     R::File: Send,
 {
     ghost use Rattle.std.specs.Prelude.{None};
-    ghost use Rattle.cloud_io.specs.SystemFiles.{places_of};
+    ghost use Rattle.cloud_io.specs.SystemFiles.{places_of, left_of};
 
     ghost files = { λ _. None };
 
     ghost opened = { λ s. places_of s.opened.items };
+
+    ghost left = { λ s. left_of R.File.remaining s.opened.items };
 
     ghost faults = { λ s. s.faults };
 

@@ -1,5 +1,6 @@
-ghost use Rattle.std.specs.Prelude.{◌≡◌, ℕ, Option, IsSome};
+ghost use Rattle.std.specs.Prelude.{◌≡◌, ℕ, List, Option, IsSome};
 ghost use Rattle.std.specs.Io.{ReadsAtMost};
+ghost use Rattle.std.specs.Io.KnownBytes.{ReadConsumes};
 ghost use Rattle.cloud_io.specs.Counts.{HasCause, HasCauses};
 
 use crate::faults::{Failed, OpenFault};
@@ -17,6 +18,9 @@ pub trait Inputs: Send {
 
     /// The name of each opened file, and the place in it.
     ghost opened: { Self → Opened };
+
+    /// The bytes that the reads of an opened file are still to give, or None where they are not told.
+    ghost left: { Self → ℕ → Option (List ℕ) };
 
     /// How often a call failed.
     ghost faults: { Self → ℕ };
@@ -40,6 +44,7 @@ pub trait Inputs: Send {
         ensures bound { ReadsAtMost result buf.new }
         ensures moves { Moves (opened self.old) (opened self.new) file result }
         ensures gives { Gives (files self.old) (opened self.old) file result buf.new }
+        ensures consumes { ReadConsumes (left self.old file) (left self.new file) result buf.new }
         ensures missing { missing self.new ≡ missing self.old }
         ensures cause { HasCause (faults self.old) (faults self.new) result };
 }

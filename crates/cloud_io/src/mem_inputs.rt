@@ -36,12 +36,14 @@ impl MemInputs {
 }
 
 impl Inputs for MemInputs {
-    ghost use Rattle.std.specs.Prelude.{Some};
+    ghost use Rattle.std.specs.Prelude.{Some, None};
     ghost use Rattle.cloud_io.specs.HeldViews.{folder, places};
 
     ghost files = { λ s. Some (folder s.held) };
 
     ghost opened = { λ s. places s.held };
+
+    ghost left = { λ _ _. None };
 
     ghost faults = { λ s. s.faults };
 

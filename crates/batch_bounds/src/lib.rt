@@ -10,4 +10,3 @@ mod stop;
 pub use admission::{Refusal, build_within};
 pub use ends::batch_ends;
 pub use limits::Limits;
-pub use stop::Stop;

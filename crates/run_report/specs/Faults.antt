@@ -46,3 +46,20 @@ fault_line fault = joined (codes "simlod: " ∷ fault_text fault ∷ (10 ∷ [])
 abbrev pub HasAxis : Fault → Type 0
 HasAxis (Axis axis span) = axis < 3
 HasAxis _ = Unit {0}
+
+-- a fault in the bytes of a file
+abbrev pub IsBadInput : Fault → Type 0
+IsBadInput (Fields name line n) = Unit {0}
+IsBadInput (Number name line field) = Unit {0}
+IsBadInput (Range name line field) = Unit {0}
+IsBadInput (NotLas name) = Unit {0}
+IsBadInput (HeaderShort name have) = Unit {0}
+IsBadInput (Version name major minor) = Unit {0}
+IsBadInput (Compressed name byte) = Unit {0}
+IsBadInput (Format name byte) = Unit {0}
+IsBadInput (Length name have need) = Unit {0}
+IsBadInput (Start name offset header) = Unit {0}
+IsBadInput (PointsShort name have need) = Unit {0}
+IsBadInput (Frames name first) = Unit {0}
+IsBadInput (Schedule name at) = Unit {0}
+IsBadInput _ = ⊥

@@ -1,5 +1,5 @@
 ghost use Rattle.std.specs.Prelude.{◌≡◌, ◌<◌, IfOk, string_bytes};
-ghost use Rattle.run_report.specs.Faults.{fault_text, fault_line, axis_letter, HasAxis};
+ghost use Rattle.run_report.specs.Faults.{fault_text, fault_line, axis_letter, HasAxis, IsBadInput};
 ghost use Rattle.run_report.specs.RefusedRows.{refused_rest};
 ghost use Rattle.run_report.specs.declared.fault.Fault.TheVariants.{Output, Memory};
 
@@ -31,6 +31,7 @@ pub fn out_of_memory_line() -> &'static [u8]
     b"simlod: out of memory\n"
 }
 
+/// The text of a fault, without the program's name.
 fn text(alloc: Global, fault: &Fault) -> Result<String, AllocError>
     requires { HasAxis fault.now }
     ensures { IfOk result (λ text. string_bytes text ≡ fault_text fault.now) }
@@ -44,6 +45,30 @@ fn text(alloc: Global, fault: &Fault) -> Result<String, AllocError>
         Fault::Pixels { n } => format!(in alloc; "usage: {n} pixels exceed 50000000"),
         Fault::NoFile { name } => format!(in alloc; "no file {name}"),
         Fault::ReadFault { name } => format!(in alloc; "read fault in {name}"),
+        Fault::TooLong { name } => {
+            format!(in alloc; "limit: {name} is longer than 1000000000 bytes")
+        }
+        Fault::Axis { axis, span } => {
+            let letter = axis_letter(*axis);
+            format!(in alloc; "limit: axis {letter} spans {span}")
+        }
+        Fault::Batches => format!(in alloc; "limit: batches"),
+        Fault::Batch { row } => {
+            let input = row.input;
+            let rest = refused_rest(alloc, &row.cause)?;
+            format!(in alloc; "limit: batch {input} {rest}")
+        }
+        Fault::Memory => format!(in alloc; "out of memory"),
+        _ => bad_input_text(alloc, fault),
+    }
+}
+
+/// The text of a fault in the bytes of a file.
+fn bad_input_text(alloc: Global, fault: &Fault) -> Result<String, AllocError>
+    requires { IsBadInput fault.now }
+    ensures { IfOk result (λ text. string_bytes text ≡ fault_text fault.now) }
+{
+    match fault {
         Fault::Fields { name, line, n } => format!(in alloc; "{name}: line {line}: {n} fields"),
         Fault::Number { name, line, field } => {
             format!(in alloc; "{name}: line {line} field {field}: not a number")
@@ -75,20 +100,7 @@ fn text(alloc: Global, fault: &Fault) -> Result<String, AllocError>
             format!(in alloc; "{name}: scales or offsets differ from {first}")
         }
         Fault::Schedule { name, at } => format!(in alloc; "{name}: schedule byte {at}"),
-        Fault::TooLong { name } => {
-            format!(in alloc; "limit: {name} is longer than 1000000000 bytes")
-        }
-        Fault::Axis { axis, span } => {
-            let letter = axis_letter(*axis);
-            format!(in alloc; "limit: axis {letter} spans {span}")
-        }
-        Fault::Batches => format!(in alloc; "limit: batches"),
-        Fault::Batch { row } => {
-            let input = row.input;
-            let rest = refused_rest(alloc, &row.cause)?;
-            format!(in alloc; "limit: batch {input} {rest}")
-        }
-        Fault::Memory => format!(in alloc; "out of memory"),
+        _ => unreachable!(),
     }
 }
 

@@ -1,5 +1,5 @@
 -- In the arms whose literals are long, the format's own clause is the goal once the arm is named.
-use Rattle.run_report.proofs.line.text.Goals as goal
+use Rattle.run_report.proofs.line.bad_input_text.Goals as goal
 
 pub returns-in-HeaderShort : goal.returns-in-HeaderShort
 returns-in-HeaderShort c = rw c.in-HeaderShort.is c.format-in-HeaderShort.ensures.ok

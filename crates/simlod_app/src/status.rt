@@ -49,17 +49,27 @@ pub fn status_of(fault: &Fault) -> Status
     match fault {
         Fault::Output => Status::OutputFault,
         Fault::Command
-        | Fault::Word { at: _ }
+        | Fault::Word { .. }
         | Fault::Options
-        | Fault::Value { name: _ }
-        | Fault::Pixels { n: _ } => Status::Usage,
-        Fault::NoFile { name: _ } => Status::NoFile,
-        Fault::ReadFault { name: _ } => Status::ReadFault,
-        Fault::TooLong { name: _ }
-        | Fault::Axis { axis: _, span: _ }
-        | Fault::Batches
-        | Fault::Batch { row: _ } => Status::Limit,
+        | Fault::Value { .. }
+        | Fault::Pixels { .. } => Status::Usage,
+        Fault::NoFile { .. } => Status::NoFile,
+        Fault::ReadFault { .. } => Status::ReadFault,
+        Fault::Fields { .. }
+        | Fault::Number { .. }
+        | Fault::Range { .. }
+        | Fault::NotLas { .. }
+        | Fault::HeaderShort { .. }
+        | Fault::Version { .. }
+        | Fault::Compressed { .. }
+        | Fault::Format { .. }
+        | Fault::Length { .. }
+        | Fault::Start { .. }
+        | Fault::PointsShort { .. }
+        | Fault::Frames { .. }
+        | Fault::Schedule { .. } => Status::BadInput,
+        Fault::TooLong { .. } | Fault::Axis { .. } | Fault::Batches | Fault::Batch { .. } =>
+            Status::Limit,
         Fault::Memory => Status::Memory,
-        _ => Status::BadInput,
     }
 }

@@ -9,7 +9,7 @@ use Rattle.run_report.specs.declared.fault.Fault.TheVariants as fault
 use Rattle.run_words.specs.Commands.{Text}
 use Rattle.simlod_app.specs.Dues.{IsDue}
 use Rattle.simlod_app.specs.Outcomes.{Outside, AreFilesOf, IsNextOf, Tells, TellsLine, TellsFault, Refuses, Ends, IsComplete, IsRun, ended_by}
-use Rattle.simlod_app.specs.Runs.{Source, answer}
+use Rattle.simlod_app.specs.Runs.{Source, words_output}
 use Rattle.simlod_app.specs.Statuses.{status_of}
 use Rattle.simlod_app.specs.declared.status.Status.{Status}
 use Rattle.simlod_app.specs.declared.status.Status.TheVariants as ended
@@ -45,18 +45,18 @@ completes IsNext answer old new ended.Limit h read wrote = inr (of_refusal answe
 
 -- a run that is refused
 pub run_refused : (told : Option Folder) (ws : List Text) (old new : Outside) (f : Fault) (status : Status)
-    → (files : List Source) × AreFilesOf told ws files × IsDue (λ name. IsNextOf ws files name × Rose old.faults new.faults) (Rose old.missing new.missing) (answer ws files) f
+    → (files : List Source) × AreFilesOf told ws files × IsDue (λ name. IsNextOf ws files name × Rose old.faults new.faults) (Rose old.missing new.missing) (words_output ws files) f
     → new.out ≡ old.out → TellsFault old.errors new.errors old.error_faults new.error_faults f status → IsRun told ws old new status
 run_refused told ws old new f status found nothing tells =
-    let ends : Ends (IsNextOf ws found.0) (answer ws found.0) old new status = ends_refused (IsNextOf ws found.0) (answer ws found.0) old new f status found.2 nothing tells in
-    record { files = found.0; are_told = found.1; ends = ends; complete = completes (IsNextOf ws found.0) (answer ws found.0) old new status ends }
+    let ends : Ends (IsNextOf ws found.0) (words_output ws found.0) old new status = ends_refused (IsNextOf ws found.0) (words_output ws found.0) old new f status found.2 nothing tells in
+    record { files = found.0; are_told = found.1; ends = ends; complete = completes (IsNextOf ws found.0) (words_output ws found.0) old new status ends }
 
 -- a run whose output fails
-pub run_cut : (told : Option Folder) (ws : List Text) (old new : Outside) (text slice line : List ℕ) → (files : List Source) × AreFilesOf told ws files × (answer ws files ≡ Ok text)
+pub run_cut : (told : Option Folder) (ws : List Text) (old new : Outside) (text slice line : List ℕ) → (files : List Source) × AreFilesOf told ws files × (words_output ws files ≡ Ok text)
     → slice ≡ text → AppendsPrefix old.out new.out slice → Rose old.out_faults new.out_faults → line ≡ fault_line fault.Output → TellsLine old.errors new.errors old.error_faults new.error_faults line
     → IsRun told ws old new ended.OutputFault
 run_cut told ws old new text slice line found same cut rose is tells =
     let appends : AppendsPrefix old.out new.out text = subst (λ (bytes : List ℕ). AppendsPrefix old.out new.out bytes) same cut in
     let told_line : Tells old new fault.Output = subst (λ (bytes : List ℕ). TellsLine old.errors new.errors old.error_faults new.error_faults bytes) is tells in
-    let ends : Ends (IsNextOf ws found.0) (answer ws found.0) old new ended.OutputFault = (text, found.2, appends, rose, told_line) in
-    record { files = found.0; are_told = found.1; ends = ends; complete = completes (IsNextOf ws found.0) (answer ws found.0) old new ended.OutputFault ends }
+    let ends : Ends (IsNextOf ws found.0) (words_output ws found.0) old new ended.OutputFault = (text, found.2, appends, rose, told_line) in
+    record { files = found.0; are_told = found.1; ends = ends; complete = completes (IsNextOf ws found.0) (words_output ws found.0) old new ended.OutputFault ends }

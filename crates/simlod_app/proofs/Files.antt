@@ -27,7 +27,7 @@ use Rattle.simlod_app.specs.declared.scan.FileCloud.{FileCloud}
 use Rattle.simlod_app.specs.Dues.{IsDue, GivesOver, Gives}
 use Rattle.simlod_app.specs.Outcomes.{IsSource}
 use Rattle.simlod_app.specs.RunFaults.{read_fault, xyz_fault, las_fault, IsOrMemory}
-use Rattle.simlod_app.specs.Runs.{is_las, las_frame, frame_of, points_in, of_text, of_las, rgb_byte, beside_frame, framed_in}
+use Rattle.simlod_app.specs.Runs.{is_las, las_frame, frame_of, points_in, or_xyz_fault, or_las_fault, rgb_byte, beside_frame, framed_in}
 use Rattle.simlod_app.proofs.DueLaws.{due_first, gives_through}
 use Rattle.simlod_app.proofs.Readings.{content_of, is_content}
 
@@ -105,46 +105,46 @@ beside : (name : Text) (bytes : List ℕ) (found : Result FileCloud Fault) (r : 
 beside name bytes (Ok c) r o is points same = ap (beside_frame (name, Some bytes)) points ∙ ap (λ f. Ok (c.points.items, f)) (is ∙ sym same)
 beside name bytes (Err f) r o is points same = due_first (λ failed. ⊥) ⊥ r (λ ps. Ok (ps, las_frame (name, Some bytes))) f points
 
-pub as_las : (name : Text) (how : Reading) (bytes : List ℕ) (found : Result FileCloud Fault) (rgb : RgbByte) → is_las name ≡ true → rgb ≡ rgb_byte how.low → Gives (λ c. c.points.items) found (of_las name (las rgb bytes)) → IfOk found (λ c. c.frame ≡ Some (frame bytes))
+pub as_las : (name : Text) (how : Reading) (bytes : List ℕ) (found : Result FileCloud Fault) (rgb : RgbByte) → is_las name ≡ true → rgb ≡ rgb_byte how.low → Gives (λ c. c.points.items) found (or_las_fault name (las rgb bytes)) → IfOk found (λ c. c.frame ≡ Some (frame bytes))
     → Gives framed found (beside_frame (name, Some bytes) (points_in how name bytes))
 as_las name how bytes found rgb is_named same_byte points same =
-    let read : points_in how name bytes ≡ of_las name (las rgb bytes) = ap (λ b. if b then of_las name (las (rgb_byte how.low) bytes) else of_text name (xyz how.decimals bytes)) is_named ∙ ap (λ r. of_las name (las r bytes)) (sym same_byte) in
+    let read : points_in how name bytes ≡ or_las_fault name (las rgb bytes) = ap (λ b. if b then or_las_fault name (las (rgb_byte how.low) bytes) else or_xyz_fault name (xyz how.decimals bytes)) is_named ∙ ap (λ r. or_las_fault name (las r bytes)) (sym same_byte) in
     beside name bytes found (points_in how name bytes) (Some (frame bytes)) (ap (λ b. if b then Some (frame_of (name, Some bytes)) else None) is_named)
-    (gives_through (λ failed. ⊥) (λ failed. ⊥) ⊥ ⊥ (λ c. c.points.items) found (of_las name (las rgb bytes)) (points_in how name bytes) (λ failed no. no) (λ no. no) read points) same
+    (gives_through (λ failed. ⊥) (λ failed. ⊥) ⊥ ⊥ (λ c. c.points.items) found (or_las_fault name (las rgb bytes)) (points_in how name bytes) (λ failed no. no) (λ no. no) read points) same
 
-pub as_xyz : (name : Text) (how : Reading) (bytes : List ℕ) (found : Result FileCloud Fault) → is_las name ≡ false → Gives (λ c. c.points.items) found (of_text name (xyz how.decimals bytes)) → IfOk found (λ c. c.frame ≡ None)
+pub as_xyz : (name : Text) (how : Reading) (bytes : List ℕ) (found : Result FileCloud Fault) → is_las name ≡ false → Gives (λ c. c.points.items) found (or_xyz_fault name (xyz how.decimals bytes)) → IfOk found (λ c. c.frame ≡ None)
     → Gives framed found (beside_frame (name, Some bytes) (points_in how name bytes))
 as_xyz name how bytes found plain points same =
-    let read : points_in how name bytes ≡ of_text name (xyz how.decimals bytes) = rw plain refl in
+    let read : points_in how name bytes ≡ or_xyz_fault name (xyz how.decimals bytes) = rw plain refl in
     beside name bytes found (points_in how name bytes) None (ap (λ b. if b then Some (frame_of (name, Some bytes)) else None) plain)
-    (gives_through (λ failed. ⊥) (λ failed. ⊥) ⊥ ⊥ (λ c. c.points.items) found (of_text name (xyz how.decimals bytes)) (points_in how name bytes) (λ failed no. no) (λ no. no) read points) same
+    (gives_through (λ failed. ⊥) (λ failed. ⊥) ⊥ ⊥ (λ c. c.points.items) found (or_xyz_fault name (xyz how.decimals bytes)) (points_in how name bytes) (λ failed no. no) (λ no. no) read points) same
 
 -- a text with a fault
-faulty_text : (name : Text) (due : Result (List PointValue) Fault) (e : XyzFault) (decimals : ℕ) (bytes : List ℕ) → due ≡ of_text name (xyz decimals bytes) → IsFault decimals bytes e → IsDue (λ failed. ⊥) ⊥ due (xyz_fault name e)
-faulty_text name due (text.Fields line n) decimals bytes is h = is ∙ ap (of_text name) h
-faulty_text name due (text.Number line field) decimals bytes is h = is ∙ ap (of_text name) h
-faulty_text name due (text.Range line field) decimals bytes is h = is ∙ ap (of_text name) h
+faulty_text : (name : Text) (due : Result (List PointValue) Fault) (e : XyzFault) (decimals : ℕ) (bytes : List ℕ) → due ≡ or_xyz_fault name (xyz decimals bytes) → IsFault decimals bytes e → IsDue (λ failed. ⊥) ⊥ due (xyz_fault name e)
+faulty_text name due (text.Fields line n) decimals bytes is h = is ∙ ap (or_xyz_fault name) h
+faulty_text name due (text.Number line field) decimals bytes is h = is ∙ ap (or_xyz_fault name) h
+faulty_text name due (text.Range line field) decimals bytes is h = is ∙ ap (or_xyz_fault name) h
 faulty_text name due text.Memory decimals bytes is h = tt
 
-pub bad_text : (name : Text) (decimals : ℕ) (bytes : List ℕ) (e : XyzFault) (f : Fault) → IsFault decimals bytes e → IsOrMemory (xyz_fault name e) f → IsDue (λ failed. ⊥) ⊥ (of_text name (xyz decimals bytes)) f
-bad_text name decimals bytes e f is (inl memory) = subst (λ (g : Fault). IsDue (λ failed. ⊥) ⊥ (of_text name (xyz decimals bytes)) g) (sym memory) tt
-bad_text name decimals bytes e f is (inr same) = subst (λ (g : Fault). IsDue (λ failed. ⊥) ⊥ (of_text name (xyz decimals bytes)) g) (sym same) (faulty_text name (of_text name (xyz decimals bytes)) e decimals bytes refl is)
+pub bad_text : (name : Text) (decimals : ℕ) (bytes : List ℕ) (e : XyzFault) (f : Fault) → IsFault decimals bytes e → IsOrMemory (xyz_fault name e) f → IsDue (λ failed. ⊥) ⊥ (or_xyz_fault name (xyz decimals bytes)) f
+bad_text name decimals bytes e f is (inl memory) = subst (λ (g : Fault). IsDue (λ failed. ⊥) ⊥ (or_xyz_fault name (xyz decimals bytes)) g) (sym memory) tt
+bad_text name decimals bytes e f is (inr same) = subst (λ (g : Fault). IsDue (λ failed. ⊥) ⊥ (or_xyz_fault name (xyz decimals bytes)) g) (sym same) (faulty_text name (or_xyz_fault name (xyz decimals bytes)) e decimals bytes refl is)
 
 -- a LAS file with a fault
-faulty_las : (name : Text) (rgb : RgbByte) (bytes : List ℕ) (e : LasFault) → IsLasFault rgb bytes e → IsDue (λ failed. ⊥) ⊥ (of_las name (las rgb bytes)) (las_fault name e)
-faulty_las name rgb bytes bad.NotLas h = ap (of_las name) h
-faulty_las name rgb bytes (bad.HeaderShort have) h = ap (of_las name) h
-faulty_las name rgb bytes (bad.Version major minor) h = ap (of_las name) h
-faulty_las name rgb bytes (bad.Compressed byte) h = ap (of_las name) h
-faulty_las name rgb bytes (bad.Format byte) h = ap (of_las name) h
-faulty_las name rgb bytes (bad.Length have need) h = ap (of_las name) h
-faulty_las name rgb bytes (bad.Start offset header) h = ap (of_las name) h
-faulty_las name rgb bytes (bad.PointsShort have need) h = ap (of_las name) h
+faulty_las : (name : Text) (rgb : RgbByte) (bytes : List ℕ) (e : LasFault) → IsLasFault rgb bytes e → IsDue (λ failed. ⊥) ⊥ (or_las_fault name (las rgb bytes)) (las_fault name e)
+faulty_las name rgb bytes bad.NotLas h = ap (or_las_fault name) h
+faulty_las name rgb bytes (bad.HeaderShort have) h = ap (or_las_fault name) h
+faulty_las name rgb bytes (bad.Version major minor) h = ap (or_las_fault name) h
+faulty_las name rgb bytes (bad.Compressed byte) h = ap (or_las_fault name) h
+faulty_las name rgb bytes (bad.Format byte) h = ap (or_las_fault name) h
+faulty_las name rgb bytes (bad.Length have need) h = ap (or_las_fault name) h
+faulty_las name rgb bytes (bad.Start offset header) h = ap (or_las_fault name) h
+faulty_las name rgb bytes (bad.PointsShort have need) h = ap (or_las_fault name) h
 faulty_las name rgb bytes bad.Memory h = tt
 
-pub bad_las : (name : Text) (rgb : RgbByte) (bytes : List ℕ) (e : LasFault) (f : Fault) → IsLasFault rgb bytes e → IsOrMemory (las_fault name e) f → IsDue (λ failed. ⊥) ⊥ (of_las name (las rgb bytes)) f
-bad_las name rgb bytes e f is (inl memory) = subst (λ (g : Fault). IsDue (λ failed. ⊥) ⊥ (of_las name (las rgb bytes)) g) (sym memory) tt
-bad_las name rgb bytes e f is (inr same) = subst (λ (g : Fault). IsDue (λ failed. ⊥) ⊥ (of_las name (las rgb bytes)) g) (sym same) (faulty_las name rgb bytes e is)
+pub bad_las : (name : Text) (rgb : RgbByte) (bytes : List ℕ) (e : LasFault) (f : Fault) → IsLasFault rgb bytes e → IsOrMemory (las_fault name e) f → IsDue (λ failed. ⊥) ⊥ (or_las_fault name (las rgb bytes)) f
+bad_las name rgb bytes e f is (inl memory) = subst (λ (g : Fault). IsDue (λ failed. ⊥) ⊥ (or_las_fault name (las rgb bytes)) g) (sym memory) tt
+bad_las name rgb bytes e f is (inr same) = subst (λ (g : Fault). IsDue (λ failed. ⊥) ⊥ (or_las_fault name (las rgb bytes)) g) (sym same) (faulty_las name rgb bytes e is)
 
 -- the scales and offsets of a LAS file that was read
 pub frame_read : (rgb : RgbByte) (bytes : List ℕ) (c : CloudValue) → las rgb bytes ≡ Ok c → c.frame ≡ frame bytes

@@ -13,7 +13,7 @@ use Rattle.run_words.specs.declared.words.WordsFault.TheVariants as words
 use Rattle.simlod_app.specs.Dues.{IsDue, GivesOver, Gives}
 use Rattle.simlod_app.specs.Outcomes.{AreSources, AreFilesOf, IsReached, IsNextOf}
 use Rattle.simlod_app.specs.RunFaults.{words_fault, IsOrMemory}
-use Rattle.simlod_app.specs.Runs.{Source, ◌>>=◌, is_run, of_words, reading_of, run_here, job_here, job_answer, answer}
+use Rattle.simlod_app.specs.Runs.{Source, ◌>>=◌, is_run, or_words_fault, reading_of, run_here, job_here, job_output, words_output}
 use Rattle.simlod_app.proofs.DueLaws.{due_first, due_apart, gives_through, gives_next}
 use Rattle.simlod_app.proofs.Readings.{sources, are_sources}
 
@@ -43,12 +43,12 @@ pub no_job : (ws : List Text) (e : WordsFault) (f : Fault) → (e ≡ words.Memo
 unfolding job_here
 no_job ws e f refused (inl memory) = due_in_place (job_here ws) f _ memory tt
 no_job ws e f (inl memory) (inr is) = due_in_place (job_here ws) f _ (is ∙ ap words_fault memory) tt
-no_job ws e f (inr refused) (inr is) = due_in_place (job_here ws) f _ is (due_of_words (job_here ws) e (ap (λ r. of_words r >>= run_here) refused))
+no_job ws e f (inr refused) (inr is) = due_in_place (job_here ws) f _ is (due_of_words (job_here ws) e (ap (λ r. or_words_fault r >>= run_here) refused))
 
 -- words that are a job
 pub a_job : (ws : List Text) (j : JobValue) (found : Result JobValue Fault) → job ws ≡ Ok j → Gives (λ k. k) found (run_here j) → Gives (λ k. k) found (job_here ws)
 unfolding job_here
-a_job ws j found is h = gives_next (λ name. ⊥) ⊥ (λ k. k) (of_words (job ws)) j run_here found (ap of_words is) h
+a_job ws j found is h = gives_next (λ name. ⊥) ⊥ (λ k. k) (or_words_fault (job ws)) j run_here found (ap or_words_fault is) h
 
 value_or : {X : Type 0} → X → Result X Fault → X
 value_or d (Ok x) = x
@@ -73,16 +73,16 @@ are_some_files told (Err f) j is = cc
 
 -- words that are no job here
 pub refused_words : (told : Option Folder) (ws : List Text) (fails misses : Type 0) (f : Fault) → IsDue (λ name. ⊥) ⊥ (job_here ws) f
-    → (files : List Source) × AreFilesOf told ws files × IsDue (λ name. IsNextOf ws files name × fails) misses (answer ws files) f
+    → (files : List Source) × AreFilesOf told ws files × IsDue (λ name. IsNextOf ws files name × fails) misses (words_output ws files) f
 refused_words told ws fails misses f h =
     let files : List Source = some_files told (job_here ws) in
     (files, are_some_files told (job_here ws), due_first (λ name. IsNextOf ws files name × fails) misses (job_here ws) _ f (due_apart _ misses (job_here ws) f h))
 
 -- what is due of a job is due of its words
 pub answer_of_job : (ws : List Text) (j : JobValue) (files : List Source) (fails misses : Type 0) (found : Result (Vec ℕ Global) Fault) → job_here ws ≡ Ok j
-    → GivesOver (λ name. IsReached (reading_of j) files name × fails) misses vec_items found (job_answer j files)
-    → GivesOver (λ name. IsNextOf ws files name × fails) misses vec_items found (answer ws files)
+    → GivesOver (λ name. IsReached (reading_of j) files name × fails) misses vec_items found (job_output j files)
+    → GivesOver (λ name. IsNextOf ws files name × fails) misses vec_items found (words_output ws files)
 answer_of_job ws j files fails misses found is h =
-    gives_next (λ name. IsNextOf ws files name × fails) misses vec_items (job_here ws) j (λ k. job_answer k files) found is
+    gives_next (λ name. IsNextOf ws files name × fails) misses vec_items (job_here ws) j (λ k. job_output k files) found is
     (gives_through (λ name. IsReached (reading_of j) files name × fails) (λ name. IsNextOf ws files name × fails) misses misses vec_items found
-    (job_answer j files) (job_answer j files) (λ name r. ((j, is, r.0), r.1)) (λ m. m) refl h)
+    (job_output j files) (job_output j files) (λ name r. ((j, is, r.0), r.1)) (λ m. m) refl h)

@@ -13,17 +13,17 @@ use Rattle.run_report.specs.declared.fault.Fault.TheVariants.{Batch}
 use Rattle.run_words.specs.Values.{JobValue}
 use Rattle.simlod_app.specs.Dues.{IsDue}
 use Rattle.simlod_app.specs.RunFaults.{refusal_fault}
-use Rattle.simlod_app.specs.Runs.{limits_of, output_in, shown}
+use Rattle.simlod_app.specs.Runs.{limits_of, octree_output_in, tree_output}
 
 -- where no batch is refused
 pub shown_whole : (j : JobValue) (clouds : List (List PointValue)) (cube : CubeValue) → first_refusal cube (limits_of j) (batches j.batch clouds) ≡ None
-    → output_in j clouds cube ≡ Ok (shown j cube (joined clouds))
-unfolding output_in
-shown_whole j clouds cube none = ap (λ o. option_map_or (λ row. Err (Batch row)) o (Ok (shown j cube (joined clouds)))) none
+    → octree_output_in j clouds cube ≡ Ok (tree_output j cube (joined clouds))
+unfolding octree_output_in
+shown_whole j clouds cube none = ap (λ o. option_map_or (λ row. Err (Batch row)) o (Ok (tree_output j cube (joined clouds)))) none
 
 -- where one is
 pub due_of_refusal : (j : JobValue) (clouds : List (List PointValue)) (cube : CubeValue) (refusal : Refusal) → Refuses refusal (first_refusal cube (limits_of j) (batches j.batch clouds))
-    → IsDue (λ name. ⊥) ⊥ (output_in j clouds cube) (refusal_fault refusal)
-unfolding output_in
-due_of_refusal j clouds cube (bounds.Batch row) refused = ap (λ o. option_map_or (λ row. Err (Batch row)) o (Ok (shown j cube (joined clouds)))) refused
+    → IsDue (λ name. ⊥) ⊥ (octree_output_in j clouds cube) (refusal_fault refusal)
+unfolding octree_output_in
+due_of_refusal j clouds cube (bounds.Batch row) refused = ap (λ o. option_map_or (λ row. Err (Batch row)) o (Ok (tree_output j cube (joined clouds)))) refused
 due_of_refusal j clouds cube bounds.Memory refused = tt

@@ -12,9 +12,9 @@ use Rattle.run_words.specs.Commands.{Text}
 use Rattle.xyz_points.specs.Reading.{and_then, all_or_first_error}
 use Rattle.std.specs.Option.{option_or}
 use Rattle.simlod_app.specs.declared.scan.Reading.{Reading}
-use Rattle.simlod_app.specs.Dues.{IsDue, frame_step}
+use Rattle.simlod_app.specs.Dues.{IsDue}
 use Rattle.simlod_app.specs.Outcomes.{AreSources, IsSource, IsReached}
-use Rattle.simlod_app.specs.Runs.{Source, Framed, cloud_of, first_frame, in_frame, framed_in, clouds_of, ◌>>=◌}
+use Rattle.simlod_app.specs.Runs.{Source, Framed, cloud_of, first_frame, in_frame, frame_step, framed_in, clouds_of, ◌>>=◌}
 use Rattle.simlod_app.proofs.Frames.{clouds_with, clouds_of-is, first_frame-append, settled, read_as, not_read_as, IsStep, file_step, IsOther, file_refused}
 use Rattle.simlod_app.proofs.DueLaws.{due_through}
 

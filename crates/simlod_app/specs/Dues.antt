@@ -1,10 +1,8 @@
 -- What the parts of a run answer, beside what is due: the value or the refusal of the definitions, or want of memory.
-use Rattle.std.specs.Prelude.{◌≡◌, ℕ, List, Option, Some, None, Result, Ok, Err, ⊤, not, if◌then◌else◌}
-use Rattle.std.specs.Str.{bytes_eq}
+use Rattle.std.specs.Prelude.{◌≡◌, Result, Ok, Err, ⊤}
 use Rattle.run_report.specs.declared.fault.Fault.{Fault}
-use Rattle.run_report.specs.declared.fault.Fault.TheVariants.{Output, NoFile, ReadFault, Frames, Memory}
+use Rattle.run_report.specs.declared.fault.Fault.TheVariants.{Output, NoFile, ReadFault, Memory}
 use Rattle.run_words.specs.Commands.{Text}
-use Rattle.simlod_app.specs.Runs.{Framed}
 
 -- a refusal is the one that is due, or want of memory; a failed read comes where Fails says so, and a missing file only where Misses holds
 abbrev pub IsDue : {Y : Type 0} → (Text → Type 0) → Type 0 → Result Y Fault → Fault → Type 0
@@ -22,9 +20,3 @@ GivesOver Fails Misses view (Err fault) due = IsDue Fails Misses due fault
 -- the same where no inputs are touched
 abbrev pub Gives : {X Y : Type 0} → (X → Y) → Result X Fault → Result Y Fault → Type 0
 Gives view found due = GivesOver (λ name. ⊥) ⊥ view found due
-
--- the first LAS file, once a file with these scales and offsets was read behind others
-abbrev pub frame_step : Option Framed → Text → Option (List ℕ) → Result (Option Framed) Fault
-frame_step first name None = Ok first
-frame_step None name (Some frame) = Ok (Some (name, frame))
-frame_step (Some first) name (Some frame) = if not (bytes_eq frame first.1) then Err (Frames name first.0) else Ok (Some first)

@@ -10,7 +10,7 @@ use Rattle.run_report.specs.declared.fault.Fault.TheVariants.{Output, ReadFault,
 use Rattle.run_words.specs.Commands.{Text}
 use Rattle.run_words.specs.Values.{JobValue}
 use Rattle.simlod_app.specs.declared.scan.Reading.{Reading}
-use Rattle.simlod_app.specs.Runs.{Source, reading_of, job_here, clouds_of, answer}
+use Rattle.simlod_app.specs.Runs.{Source, reading_of, job_here, clouds_of, words_output}
 use Rattle.simlod_app.specs.Statuses.{status_of}
 use Rattle.simlod_app.specs.declared.status.Status.{Status}
 use Rattle.simlod_app.specs.declared.status.Status.TheVariants as ended
@@ -100,5 +100,5 @@ IsComplete answer old new status =
 pub record IsRun (told : Option Folder) (words : List Text) (old new : Outside) (status : Status) : Type 0 where
   pub files : List Source
   pub are_told : AreFilesOf told words files
-  pub ends : Ends (IsNextOf words files) (answer words files) old new status
-  pub complete : IsComplete (answer words files) old new status
+  pub ends : Ends (IsNextOf words files) (words_output words files) old new status
+  pub complete : IsComplete (words_output words files) old new status

@@ -6,8 +6,9 @@ use Rattle.cloud_io.specs.declared.faults.ReadFault.{ReadFault}
 use Rattle.cloud_io.specs.declared.faults.ReadFault.TheVariants as reading
 use Rattle.las_points.specs.declared.reader.LasFault.{LasFault}
 use Rattle.las_points.specs.declared.reader.LasFault.TheVariants as las
+use Rattle.octree_plain.specs.declared.fitting.Span.{Span}
 use Rattle.run_report.specs.declared.fault.Fault.{Fault}
-use Rattle.run_report.specs.declared.fault.Fault.TheVariants.{Command, Word, Options, Value, Pixels, NoFile, ReadFault as FailedRead, Fields, Number, Range, NotLas, HeaderShort, Version, Compressed, Format, Length, Start, PointsShort, TooLong, Batch, Memory}
+use Rattle.run_report.specs.declared.fault.Fault.TheVariants.{Command, Word, Options, Value, Pixels, NoFile, ReadFault as FailedRead, Fields, Number, Range, NotLas, HeaderShort, Version, Compressed, Format, Length, Start, PointsShort, TooLong, Axis, Batch, Memory}
 use Rattle.run_words.specs.Commands.{Text}
 use Rattle.run_words.specs.Options.{option_word}
 use Rattle.run_words.specs.declared.words.WordsFault.{WordsFault}
@@ -49,6 +50,10 @@ las_fault file (las.Length have need) = Length file have need
 las_fault file (las.Start offset header) = Start file offset header
 las_fault file (las.PointsShort have need) = PointsShort file have need
 las_fault file las.Memory = Memory
+
+-- points that span too much on an axis
+abbrev pub span_fault : Span → Fault
+span_fault span = Axis span.axis span.span
 
 -- a batch that a bound refuses
 abbrev pub refusal_fault : Refusal → Fault

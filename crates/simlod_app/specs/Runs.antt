@@ -23,17 +23,17 @@ use Rattle.octree_plain.specs.Fitting.{fitted_cube}
 use Rattle.octree_plain.specs.Listing.{nodes_text}
 use Rattle.octree_plain.specs.declared.fitting.Span.{Span}
 use Rattle.run_report.specs.declared.fault.Fault.{Fault}
-use Rattle.run_report.specs.declared.fault.Fault.TheVariants.{Command, NoFile, TooLong, Frames, Axis, Batch}
+use Rattle.run_report.specs.declared.fault.Fault.TheVariants.{Command, NoFile, TooLong, Frames, Batch}
 use Rattle.run_words.specs.Commands.{Text, is_same}
 use Rattle.run_words.specs.Jobs.{job}
 use Rattle.run_words.specs.Values.{JobValue}
 use Rattle.run_words.specs.declared.command.CommandName.{CommandName}
-use Rattle.run_words.specs.declared.command.CommandName.TheVariants.{Nodes, Bounds, Image}
+use Rattle.run_words.specs.declared.command.CommandName.TheVariants.{Nodes, Bounds, Image, Replay, Demo, Live}
 use Rattle.run_words.specs.declared.words.WordsFault.{WordsFault}
 use Rattle.xyz_points.specs.Reading.{xyz, all_or_first_error}
 use Rattle.xyz_points.specs.declared.reader.XyzFault.{XyzFault}
 use Rattle.simlod_app.specs.declared.scan.Reading.{Reading}
-use Rattle.simlod_app.specs.RunFaults.{words_fault, xyz_fault, las_fault}
+use Rattle.simlod_app.specs.RunFaults.{words_fault, xyz_fault, las_fault, span_fault}
 
 infixl 10 ◌>>=◌
 -- one step after another, as long as none is refused
@@ -54,12 +54,14 @@ abbrev pub is_run : CommandName → Bool
 is_run Nodes = true
 is_run Image = true
 is_run Bounds = true
-is_run _ = false
+is_run Replay = false
+is_run Demo = false
+is_run Live = false
 
 -- a refusal of the words is one of the run
-abbrev pub of_words : Result JobValue WordsFault → Result JobValue Fault
-of_words (Ok j) = Ok j
-of_words (Err fault) = Err (words_fault fault)
+abbrev pub or_words_fault : Result JobValue WordsFault → Result JobValue Fault
+or_words_fault (Ok j) = Ok j
+or_words_fault (Err fault) = Err (words_fault fault)
 
 -- a job, if it is of a command that is run here
 unfoldable pub run_here : JobValue → Result JobValue Fault
@@ -67,21 +69,21 @@ run_here j = if not (is_run j.command) then Err Command else Ok j
 
 -- the job of the words, if it is one that is run here
 unfoldable pub job_here : List Text → Result JobValue Fault
-job_here words = of_words (job words) >>= run_here
+job_here words = or_words_fault (job words) >>= run_here
 
 -- a file of a job: its name, and its bytes, or None where it is not there
 abbrev pub Source : Type 0
 Source = Text × Option (List ℕ)
 
 -- a refusal of a file's text is one of the run
-abbrev pub of_text : Text → Result (List PointValue) XyzFault → Result (List PointValue) Fault
-of_text name (Ok points) = Ok points
-of_text name (Err fault) = Err (xyz_fault name fault)
+abbrev pub or_xyz_fault : Text → Result (List PointValue) XyzFault → Result (List PointValue) Fault
+or_xyz_fault name (Ok points) = Ok points
+or_xyz_fault name (Err fault) = Err (xyz_fault name fault)
 
 -- a refusal of a LAS file is one of the run
-abbrev pub of_las : Text → Result CloudValue LasFault → Result (List PointValue) Fault
-of_las name (Ok cloud) = Ok cloud.points
-of_las name (Err fault) = Err (las_fault name fault)
+abbrev pub or_las_fault : Text → Result CloudValue LasFault → Result (List PointValue) Fault
+or_las_fault name (Ok cloud) = Ok cloud.points
+or_las_fault name (Err fault) = Err (las_fault name fault)
 
 -- the byte of a colour that is taken
 abbrev pub rgb_byte : Bool → RgbByte
@@ -89,7 +91,7 @@ rgb_byte low = if low then Low else High
 
 -- the points in the bytes of a file, by its name
 abbrev pub points_in : Reading → Text → List ℕ → Result (List PointValue) Fault
-points_in how name bytes = if is_las name then of_las name (las (rgb_byte how.low) bytes) else of_text name (xyz how.decimals bytes)
+points_in how name bytes = if is_las name then or_las_fault name (las (rgb_byte how.low) bytes) else or_xyz_fault name (xyz how.decimals bytes)
 
 -- the points of a file that has these bytes, or is not there
 abbrev pub cloud_in : Reading → Text → Option (List ℕ) → Result (List PointValue) Fault
@@ -130,6 +132,12 @@ in_frame None file points = Ok points
 in_frame (Some first) file points =
     if is_las file.0 && not (bytes_eq (frame_of file) first.1) then Err (Frames file.0 first.0) else Ok points
 
+-- the first LAS file, once a file with these scales and offsets was read behind others
+abbrev pub frame_step : Option Framed → Text → Option (List ℕ) → Result (Option Framed) Fault
+frame_step first name None = Ok first
+frame_step None name (Some frame) = Ok (Some (name, frame))
+frame_step (Some first) name (Some frame) = if not (bytes_eq frame first.1) then Err (Frames name first.0) else Ok (Some first)
+
 -- the points of a file among files of which this is the first LAS file
 abbrev pub cloud_of : Reading → Option Framed → Source → Result (List PointValue) Fault
 cloud_of how first file = cloud_in how file.0 file.1 >>= in_frame first file
@@ -139,14 +147,14 @@ unfoldable pub clouds_of : Reading → List Source → Result (List (List PointV
 clouds_of how files = all_or_first_error (map (cloud_of how (first_frame files)) files)
 
 -- points that span too much are a refusal of the run
-abbrev pub of_span : Result CubeValue Span → Result CubeValue Fault
-of_span (Ok cube) = Ok cube
-of_span (Err span) = Err (Axis span.axis span.span)
+abbrev pub or_span_fault : Result CubeValue Span → Result CubeValue Fault
+or_span_fault (Ok cube) = Ok cube
+or_span_fault (Err span) = Err (span_fault span)
 
 -- the root cube: the given one, or the least one round all points
 abbrev pub cube_of : Option CubeValue → List PointValue → Result CubeValue Fault
 cube_of (Some given) points = Ok given
-cube_of None points = of_span (fitted_cube points)
+cube_of None points = or_span_fault (fitted_cube points)
 
 -- the numbers of a job's camera
 abbrev pub camera_numbers : JobValue → CameraNumbers
@@ -161,9 +169,9 @@ camera_numbers j = record {
   dot = j.dot;
 }
 
--- what is shown of the octree of points in a cube: the picture that the job's camera takes of it, or its text
-abbrev pub shown : JobValue → CubeValue → List PointValue → List ℕ
-shown j cube points =
+-- what a job shows of the octree of points in a cube: the picture that its camera takes of it, or the list of its nodes
+abbrev pub tree_output : JobValue → CubeValue → List PointValue → List ℕ
+tree_output j cube points =
     if is_same j.command Image then picture j.leaf cube points (camera_of (camera_numbers j))
     else nodes_text j.voxels (octree j.leaf cube points) cube
 
@@ -171,34 +179,34 @@ shown j cube points =
 abbrev pub limits_of : JobValue → Limits
 limits_of j = record { leaf = j.leaf; nodes = j.nodes; points = j.points }
 
--- what is shown of the octree of all points, if no batch is refused
-unfoldable pub output_in : JobValue → List (List PointValue) → CubeValue → Result (List ℕ) Fault
-output_in j clouds cube =
+-- the same of all points, if no batch is refused
+unfoldable pub octree_output_in : JobValue → List (List PointValue) → CubeValue → Result (List ℕ) Fault
+octree_output_in j clouds cube =
     option_map_or (λ row. Err (Batch row)) (first_refusal cube (limits_of j) (batches j.batch clouds))
-    (Ok (shown j cube (joined clouds)))
+    (Ok (tree_output j cube (joined clouds)))
 
--- the output of a job that shows the octree of these clouds in its root cube, if there is one
+-- the output of `nodes` and of `image` with these clouds: what is shown of their octree in the root cube, if there is one
 abbrev pub octree_output : JobValue → List (List PointValue) → Result (List ℕ) Fault
-octree_output j clouds = cube_of j.cube (joined clouds) >>= output_in j clouds
+octree_output j clouds = cube_of j.cube (joined clouds) >>= octree_output_in j clouds
 
--- what the points take up, with the least cube round them
-abbrev pub bounds_round : List PointValue → Result CubeValue Fault → Result (List ℕ) Fault
-bounds_round points cube = cube >>= λ c. Ok (bounds_text points c)
+-- the output of `bounds`: what the points take up, with the least cube round them
+abbrev pub bounds_output : List PointValue → Result CubeValue Fault → Result (List ℕ) Fault
+bounds_output points cube = cube >>= λ c. Ok (bounds_text points c)
 
 -- the output of a job with these clouds
-abbrev pub output : JobValue → List (List PointValue) → Result (List ℕ) Fault
-output j clouds = if is_same j.command Bounds then bounds_round (joined clouds) (cube_of None (joined clouds)) else octree_output j clouds
+abbrev pub clouds_output : JobValue → List (List PointValue) → Result (List ℕ) Fault
+clouds_output j clouds = if is_same j.command Bounds then bounds_output (joined clouds) (cube_of None (joined clouds)) else octree_output j clouds
 
 -- how a job reads its files
 abbrev pub reading_of : JobValue → Reading
 reading_of j = record { decimals = j.decimals; low = j.low }
 
--- what a job over these files is to answer
-abbrev pub job_answer : JobValue → List Source → Result (List ℕ) Fault
-job_answer j files = clouds_of (reading_of j) files >>= output j
+-- the output of a job over these files, or its first refusal
+abbrev pub job_output : JobValue → List Source → Result (List ℕ) Fault
+job_output j files = clouds_of (reading_of j) files >>= clouds_output j
 
--- what a run of these words over these files is to answer
-abbrev pub answer : List Text → List Source → Result (List ℕ) Fault
-answer words files = do
+-- what a run of these words over these files is to answer: the output of their job, or its first refusal
+abbrev pub words_output : List Text → List Source → Result (List ℕ) Fault
+words_output words files = do
   j ← job_here words
-  job_answer j files
+  job_output j files

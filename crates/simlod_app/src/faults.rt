@@ -1,18 +1,19 @@
 ghost use Rattle.run_report.specs.Faults.{HasAxis};
-ghost use Rattle.std.specs.Prelude.{◌≡◌};
-ghost use Rattle.simlod_app.specs.RunFaults.{words_fault, read_fault, xyz_fault, las_fault, refusal_fault, IsOrMemory};
+ghost use Rattle.std.specs.Prelude.{◌≡◌, ◌<◌};
+ghost use Rattle.simlod_app.specs.RunFaults.{words_fault, read_fault, xyz_fault, las_fault, span_fault, refusal_fault, IsOrMemory};
 ghost use Rattle.run_report.specs.declared.fault.Fault.TheVariants.{Frames};
 
 use batch_bounds::Refusal;
 use cloud_io::ReadFault;
 use las_points::LasFault;
+use octree_plain::Span;
 use run_report::{Fault, Name};
 use run_words::WordsFault;
 use std::alloc::Global;
 use xyz_points::XyzFault;
 
 /// The fault of words that are no job, or want of memory.
-pub fn of_words(alloc: Global, fault: WordsFault) -> Fault
+pub fn words_fault(alloc: Global, fault: WordsFault) -> Fault
     ensures kind { IsOrMemory (words_fault fault) result }
     ensures axis { HasAxis result }
 {
@@ -30,7 +31,7 @@ pub fn of_words(alloc: Global, fault: WordsFault) -> Fault
 }
 
 /// The fault of a file that was not read to its end, or want of memory.
-pub fn of_read(alloc: Global, name: &str, fault: ReadFault) -> Fault
+pub fn read_fault(alloc: Global, name: &str, fault: ReadFault) -> Fault
     ensures kind { IsOrMemory (read_fault name.now fault) result }
     ensures axis { HasAxis result }
 {
@@ -46,7 +47,7 @@ pub fn of_read(alloc: Global, name: &str, fault: ReadFault) -> Fault
 }
 
 /// The fault of a text that has no points, or want of memory.
-pub fn of_xyz(alloc: Global, name: &str, fault: XyzFault) -> Fault
+pub fn xyz_fault(alloc: Global, name: &str, fault: XyzFault) -> Fault
     ensures kind { IsOrMemory (xyz_fault name.now fault) result }
     ensures axis { HasAxis result }
 {
@@ -62,7 +63,7 @@ pub fn of_xyz(alloc: Global, name: &str, fault: XyzFault) -> Fault
 }
 
 /// The fault of a LAS file that is not read, or want of memory.
-pub fn of_las(alloc: Global, name: &str, fault: LasFault) -> Fault
+pub fn las_fault(alloc: Global, name: &str, fault: LasFault) -> Fault
     ensures kind { IsOrMemory (las_fault name.now fault) result }
     ensures axis { HasAxis result }
 {
@@ -86,8 +87,20 @@ pub fn of_las(alloc: Global, name: &str, fault: LasFault) -> Fault
     }
 }
 
+/// The fault of points that span too much on an axis.
+pub fn span_fault(span: Span) -> Fault
+    requires { span.axis < 3 }
+    ensures kind { result ≡ span_fault span }
+    ensures axis { HasAxis result }
+{
+    Fault::Axis {
+        axis: span.axis,
+        span: span.span,
+    }
+}
+
 /// The fault of a batch that a bound refuses, or want of memory.
-pub fn of_refusal(refusal: Refusal) -> Fault
+pub fn refusal_fault(refusal: Refusal) -> Fault
     ensures kind { result ≡ refusal_fault refusal }
     ensures axis { HasAxis result }
 {
@@ -98,7 +111,7 @@ pub fn of_refusal(refusal: Refusal) -> Fault
 }
 
 /// The fault of a LAS file whose scales or offsets are not those of the first, or want of memory.
-pub fn of_frames(alloc: Global, name: &str, first: &str) -> Fault
+pub fn frames_fault(alloc: Global, name: &str, first: &str) -> Fault
     ensures kind { IsOrMemory (Frames name.now first.now) result }
     ensures axis { HasAxis result }
 {

@@ -2,13 +2,14 @@
 #![tactic(auto)]
 
 mod bounds;
+mod clouds;
 mod faults;
 mod octree;
 mod output;
 mod plain;
 mod scan;
 mod status;
-mod usage;
+mod words;
 
 pub use plain::simlod_plain;
 pub use status::Status;

@@ -1,4 +1,4 @@
-ghost use Rattle.std.specs.Prelude.{◌≡◌, ◌<◌, ◌^◌, IsTrue, List, IfOk, IfErr, length, map, vec_items};
+ghost use Rattle.std.specs.Prelude.{◌≡◌, ◌<◌, ◌^◌, ◌↔◌, IsTrue, List, IfOk, IfErr, length, map, vec_items};
 ghost use Rattle.batch_bounds.specs.Batches.{batches, ends_from};
 ghost use Rattle.batch_bounds.specs.Stops.{CanCut};
 ghost use Rattle.camera_cut.specs.Fields.{camera_of};
@@ -9,38 +9,38 @@ ghost use Rattle.octree_model.specs.Shapes.{IsOctreeIn};
 ghost use Rattle.run_report.specs.Faults.{HasAxis};
 ghost use Rattle.run_words.specs.Values.{HasRanges};
 ghost use Rattle.simlod_app.specs.Dues.{Gives};
-ghost use Rattle.simlod_app.specs.Runs.{cube_of, camera_numbers, limits_of, octree_output, output_in, shown};
+ghost use Rattle.simlod_app.specs.Runs.{cube_of, camera_numbers, limits_of, octree_output, octree_output_in, tree_output};
 
+use crate::clouds::{join, least_cube};
 use crate::faults;
-use crate::scan::join;
 use batch_bounds::{Limits, batch_ends, build_within};
 use camera_cut::{Camera, CameraNumbers};
 use cube_math::{Cube, Point};
-use octree_plain::{Tree, fit_cube, nodes_text};
+use octree_plain::{Tree, nodes_text};
 use run_report::Fault;
 use run_words::{CommandName, Job};
 use splat_ppm::picture_of;
 use std::alloc::{AllocError, Global};
 
-/// What a job shows of the octree of all points of the clouds.
+/// The output of `nodes` and of `image`: what the job shows of the octree of all points of the clouds.
 pub fn octree_output(alloc: Global, clouds: Vec<Vec<Point>>, job: &Job) -> Result<Vec<u8>, Fault>
     requires { HasRanges job.now }
     ensures axis { IfErr result HasAxis }
     ensures gives { Gives vec_items result (octree_output job.now (map vec_items clouds.items)) }
 {
-    // A batch has a number of 32 bits.
+    // Places and batches have numbers of 32 bits. From 2^32 points on a run ends as one that found no memory.
     if !are_few(clouds.as_slice()) {
         return Err(Fault::Memory);
     }
     let ends = batch_ends(alloc, clouds.as_slice(), job.batch)?;
     let points = join(alloc, clouds)?;
     let cube = root_cube(points.as_slice(), job)?;
-    output_in(alloc, points.as_slice(), ends.as_slice(), &cube, job)
+    octree_output_in(alloc, points.as_slice(), ends.as_slice(), &cube, job)
 }
 
 /// Whether the clouds have fewer than 2^32 points together.
 fn are_few(clouds: &[Vec<Point>]) -> bool
-    ensures few { IsTrue result → length (joined (map vec_items clouds.now)) < 2 ^ 32 }
+    ensures { IsTrue result ↔ (length (joined (map vec_items clouds.now)) < 2 ^ 32) }
 {
     let mut left = u32::MAX as usize;
     for cloud in clouds {
@@ -59,18 +59,13 @@ fn root_cube(points: &[Point], job: &Job) -> Result<Cube, Fault>
 {
     match job.cube {
         Some(cube) => Ok(cube),
-        None => match fit_cube(points) {
-            Ok(cube) => Ok(cube),
-            Err(span) => Err(Fault::Axis {
-                axis: span.axis,
-                span: span.span,
-            }),
-        },
+        None => least_cube(points),
     }
 }
 
-/// What is shown of the octree of points that are cut into batches, if no bound refuses one.
-fn output_in(
+/// The output of `nodes` and of `image` for points that are cut into batches, in their root cube, if no bound
+/// refuses a batch.
+fn octree_output_in(
     alloc: Global,
     points: &[Point],
     ends: &[usize],
@@ -83,22 +78,22 @@ fn output_in(
     requires ranges { HasRanges job.now }
     ensures axis { IfErr result HasAxis }
     ensures gives { (clouds : List (List PointValue)) → points.now ≡ joined clouds → ends.now ≡ ends_from 0 (batches job.now.batch clouds)
-        → Gives vec_items result (output_in job.now clouds cube.now) }
+        → Gives vec_items result (octree_output_in job.now clouds cube.now) }
 {
     match build_within(alloc, points, ends, cube, &limits_of(job)) {
-        Ok(tree) => match shown(alloc, &tree, cube, job) {
+        Ok(tree) => match tree_output(alloc, &tree, cube, job) {
             Ok(output) => Ok(output),
             Err(_) => Err(Fault::Memory),
         },
-        Err(refusal) => Err(faults::of_refusal(refusal)),
+        Err(refusal) => Err(faults::refusal_fault(refusal)),
     }
 }
 
-/// What is shown of an octree: a picture, or its text.
-fn shown(alloc: Global, tree: &Tree, cube: &Cube, job: &Job) -> Result<Vec<u8>, AllocError>
+/// What a job shows of an octree: a picture, or the list of its nodes.
+fn tree_output(alloc: Global, tree: &Tree, cube: &Cube, job: &Job) -> Result<Vec<u8>, AllocError>
     requires octree { IsOctreeIn cube.now tree.now }
     requires ranges { HasRanges job.now }
-    ensures { (points : List PointValue) → tree.now ≡ octree job.now.leaf cube.now points → IfOk result (λ output. output.items ≡ shown job.now cube.now points) }
+    ensures { (points : List PointValue) → tree.now ≡ octree job.now.leaf cube.now points → IfOk result (λ output. output.items ≡ tree_output job.now cube.now points) }
 {
     match job.command {
         CommandName::Image => picture_of(alloc, tree, cube, &camera_of(job)),

@@ -4,9 +4,9 @@ ghost use Rattle.run_report.specs.Faults.{HasAxis};
 ghost use Rattle.run_words.specs.Values.{HasRanges};
 ghost use Rattle.simlod_app.specs.Dues.{Gives, GivesOver};
 ghost use Rattle.simlod_app.specs.Outcomes.{AreSources, IsReached};
-ghost use Rattle.simlod_app.specs.Runs.{Source, job_answer, output, reading_of};
+ghost use Rattle.simlod_app.specs.Runs.{Source, job_output, clouds_output, reading_of};
 
-use crate::bounds::bounds;
+use crate::bounds::bounds_output;
 use crate::octree::octree_output;
 use crate::scan::{Reading, read_clouds};
 use cloud_io::Inputs;
@@ -15,17 +15,17 @@ use run_report::Fault;
 use run_words::{CommandName, Job};
 use std::alloc::Global;
 
-/// The whole output of a job over its files.
+/// The output of a job over its files.
 pub fn job_output<I: Inputs>(alloc: Global, inputs: &mut I, job: &Job) -> Result<Vec<u8>, Fault>
     requires { HasRanges job.now }
     ensures kept { I.files inputs.new ≡ I.files inputs.old }
     ensures axis { IfErr result HasAxis }
     ensures gives { (files : List Source) × AreSources (I.files inputs.old) job.now.files files
         × GivesOver (λ name. IsReached (reading_of job.now) files name × Rose (I.faults inputs.old) (I.faults inputs.new)) (Rose (I.missing inputs.old) (I.missing inputs.new))
-        vec_items result (job_answer job.now files) }
+        vec_items result (job_output job.now files) }
 {
     let clouds = read_clouds(alloc, inputs, job.files.as_slice(), reading_of(job))?;
-    output(alloc, clouds, job)
+    clouds_output(alloc, clouds, job)
 }
 
 /// How a job reads its files.
@@ -39,13 +39,13 @@ fn reading_of(job: &Job) -> Reading
 }
 
 /// The output of a job with these clouds.
-fn output(alloc: Global, clouds: Vec<Vec<Point>>, job: &Job) -> Result<Vec<u8>, Fault>
+fn clouds_output(alloc: Global, clouds: Vec<Vec<Point>>, job: &Job) -> Result<Vec<u8>, Fault>
     requires { HasRanges job.now }
     ensures axis { IfErr result HasAxis }
-    ensures gives { Gives vec_items result (output job.now (map vec_items clouds.items)) }
+    ensures gives { Gives vec_items result (clouds_output job.now (map vec_items clouds.items)) }
 {
     match job.command {
-        CommandName::Bounds => bounds(alloc, clouds),
+        CommandName::Bounds => bounds_output(alloc, clouds),
         _ => octree_output(alloc, clouds, job),
     }
 }

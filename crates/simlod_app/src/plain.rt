@@ -3,11 +3,11 @@ ghost use Rattle.cloud_io.specs.Counts.{Rose};
 ghost use Rattle.run_report.specs.Faults.{HasAxis, fault_line};
 ghost use Rattle.simlod_app.specs.Dues.{GivesOver};
 ghost use Rattle.simlod_app.specs.Outcomes.{AreFilesOf, IsNextOf, IsRun, TellsLine, TellsFault, outside};
-ghost use Rattle.simlod_app.specs.Runs.{Source, answer};
+ghost use Rattle.simlod_app.specs.Runs.{Source, words_output};
 
 use crate::output::job_output;
 use crate::status::{Status, status_of};
-use crate::usage::read_job;
+use crate::words::read_job;
 use cloud_io::{Inputs, Sink, write_all};
 use run_report::{Fault, fault_line, out_of_memory_line, output_fault_line};
 use std::alloc::Global;
@@ -27,7 +27,7 @@ pub fn simlod_plain<I: Inputs, K: Sink, E: Sink>(
         (outside (I.faults inputs.old) (I.missing inputs.old) (K.contents out.old) (K.faults out.old) (E.contents errors.old) (E.faults errors.old))
         (outside (I.faults inputs.new) (I.missing inputs.new) (K.contents out.new) (K.faults out.new) (E.contents errors.new) (E.faults errors.new)) result }
 {
-    match output_of(alloc, words, inputs) {
+    match words_output(alloc, words, inputs) {
         Err(fault) => refuse(alloc, &fault, errors),
         Ok(text) => match write_all(out, text.as_slice()) {
             Ok(()) => Status::Ok,
@@ -39,13 +39,17 @@ pub fn simlod_plain<I: Inputs, K: Sink, E: Sink>(
     }
 }
 
-/// The whole output, or why there is none.
-fn output_of<I: Inputs>(alloc: Global, words: &[String], inputs: &mut I) -> Result<Vec<u8>, Fault>
+/// The output of the job of the words, or why there is none.
+fn words_output<I: Inputs>(
+    alloc: Global,
+    words: &[String],
+    inputs: &mut I,
+) -> Result<Vec<u8>, Fault>
     ensures kept { I.files inputs.new ≡ I.files inputs.old }
     ensures axis { IfErr result HasAxis }
     ensures gives { (files : List Source) × AreFilesOf (I.files inputs.old) (map string_bytes words.now) files
         × GivesOver (λ name. IsNextOf (map string_bytes words.now) files name × Rose (I.faults inputs.old) (I.faults inputs.new)) (Rose (I.missing inputs.old) (I.missing inputs.new))
-        vec_items result (answer (map string_bytes words.now) files) }
+        vec_items result (words_output (map string_bytes words.now) files) }
 {
     let job = read_job(alloc, words)?;
     job_output(alloc, inputs, &job)

@@ -2,11 +2,10 @@ ghost use Rattle.std.specs.Prelude.{◌≡◌, ◌≤◌, ℕ, IfOk, IfErr, List
 ghost use Rattle.cloud_io.specs.Counts.{Rose};
 ghost use Rattle.las_points.specs.Fields.{frame};
 ghost use Rattle.las_points.specs.Reading.{las};
-ghost use Rattle.octree_model.specs.Bags.{joined};
 ghost use Rattle.run_report.specs.Faults.{HasAxis};
-ghost use Rattle.simlod_app.specs.Dues.{Gives, GivesOver, frame_step};
+ghost use Rattle.simlod_app.specs.Dues.{Gives, GivesOver};
 ghost use Rattle.simlod_app.specs.Outcomes.{AreSources, IsSource, IsReached};
-ghost use Rattle.simlod_app.specs.Runs.{Source, ends_as, is_las, rgb_byte, points_in, of_las, of_text, clouds_of, framed_in, beside_frame};
+ghost use Rattle.simlod_app.specs.Runs.{Source, ends_as, is_las, rgb_byte, points_in, or_las_fault, or_xyz_fault, clouds_of, framed_in, beside_frame, frame_step};
 ghost use Rattle.xyz_points.specs.Reading.{xyz};
 
 use crate::faults;
@@ -14,7 +13,7 @@ use cloud_io::{Inputs, read_all};
 use cube_math::Point;
 use las_points::{LasCloud, RgbByte, read_las};
 use run_report::Fault;
-use std::alloc::{AllocError, Global};
+use std::alloc::Global;
 use xyz_points::read_xyz;
 
 /// The most bytes of a file.
@@ -86,7 +85,7 @@ fn with_frame<'a>(
         None => Ok(Some(FirstLas { name, frame })),
         Some(known) => {
             if frame != known.frame {
-                return Err(faults::of_frames(alloc, name, known.name));
+                return Err(faults::frames_fault(alloc, name, known.name));
             }
             Ok(Some(known))
         }
@@ -110,7 +109,7 @@ fn read_cloud<I: Inputs>(
 {
     let bytes = match read_all(alloc, inputs, name, MOST_BYTES) {
         Ok(bytes) => bytes,
-        Err(fault) => return Err(faults::of_read(alloc, name, fault)),
+        Err(fault) => return Err(faults::read_fault(alloc, name, fault)),
     };
     parse(alloc, name, bytes.as_slice(), how)
 }
@@ -131,7 +130,7 @@ fn parse(alloc: Global, name: &str, bytes: &[u8], how: Reading) -> Result<FileCl
 /// The points in the bytes of a LAS file.
 fn parse_las(alloc: Global, name: &str, bytes: &[u8], low: bool) -> Result<FileCloud, Fault>
     ensures axis { IfErr result HasAxis }
-    ensures points { Gives (λ c. c.points.items) result (of_las name.now (las (rgb_byte low) bytes.now)) }
+    ensures points { Gives (λ c. c.points.items) result (or_las_fault name.now (las (rgb_byte low) bytes.now)) }
     ensures frame { IfOk result (λ c. c.frame ≡ Some (frame bytes.now)) }
 {
     match read_las(alloc, bytes, rgb_byte(low)) {
@@ -142,7 +141,7 @@ fn parse_las(alloc: Global, name: &str, bytes: &[u8], low: bool) -> Result<FileC
                 frame: Some(frame),
             })
         }
-        Err(fault) => Err(faults::of_las(alloc, name, fault)),
+        Err(fault) => Err(faults::las_fault(alloc, name, fault)),
     }
 }
 
@@ -150,7 +149,7 @@ fn parse_las(alloc: Global, name: &str, bytes: &[u8], low: bool) -> Result<FileC
 fn parse_xyz(alloc: Global, name: &str, bytes: &[u8], decimals: u32) -> Result<FileCloud, Fault>
     requires { decimals ≤ 9 }
     ensures axis { IfErr result HasAxis }
-    ensures points { Gives (λ c. c.points.items) result (of_text name.now (xyz decimals bytes.now)) }
+    ensures points { Gives (λ c. c.points.items) result (or_xyz_fault name.now (xyz decimals bytes.now)) }
     ensures frame { IfOk result (λ c. c.frame ≡ None) }
 {
     match read_xyz(alloc, bytes, decimals) {
@@ -158,7 +157,7 @@ fn parse_xyz(alloc: Global, name: &str, bytes: &[u8], decimals: u32) -> Result<F
             points,
             frame: None,
         }),
-        Err(fault) => Err(faults::of_xyz(alloc, name, fault)),
+        Err(fault) => Err(faults::xyz_fault(alloc, name, fault)),
     }
 }
 
@@ -182,19 +181,4 @@ fn ends_as(name: &str, end: &[u8; 4]) -> bool
 {
     let bytes = name.as_bytes();
     bytes[bytes.len().saturating_sub(4)..].eq_ignore_ascii_case(end)
-}
-
-/// The points of all clouds, one cloud after the other. The points of a lone cloud are moved.
-pub fn join(alloc: Global, clouds: Vec<Vec<Point>>) -> Result<Vec<Point>, AllocError>
-    ensures { IfOk result (λ points. points.items ≡ joined (map vec_items clouds.items)) }
-{
-    let mut points = Vec::new(alloc);
-    for mut cloud in clouds {
-        if points.is_empty() {
-            points = cloud;
-        } else {
-            points.append(&mut cloud)?;
-        }
-    }
-    Ok(points)
 }

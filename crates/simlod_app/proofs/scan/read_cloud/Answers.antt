@@ -3,7 +3,7 @@ use Rattle.simlod_app.proofs.scan.read_cloud.Goals as goal
 
 pub returns-in-Err-clause-gives : goal.returns-in-Err-clause-gives
 returns-in-Err-clause-gives g c =
-    not_read _ _ _ c.args.name.now c.args.how _ _ _ _ c.in-Err.fault c.of_read.result c.in-Err.ensures.told c.in-Err.ensures.place c.in-Err.ensures.causes c.of_read.ensures.kind
+    not_read _ _ _ c.args.name.now c.args.how _ _ _ _ c.in-Err.fault c.read_fault.result c.in-Err.ensures.told c.in-Err.ensures.place c.in-Err.ensures.causes c.read_fault.ensures.kind
 
 pub returns-clause-gives : goal.returns-clause-gives
 returns-clause-gives g c =

@@ -5,9 +5,9 @@ use Rattle.std.proofs.lemmas.List.{map-append, take_all}
 use Rattle.cloud_io.specs.Counts.{Rose}
 use Rattle.cube_math.specs.Points.{PointValue}
 use Rattle.run_words.specs.Commands.{Text}
-use Rattle.simlod_app.specs.Dues.{IsDue, frame_step}
+use Rattle.simlod_app.specs.Dues.{IsDue}
 use Rattle.simlod_app.specs.Outcomes.{AreSources, IsReached}
-use Rattle.simlod_app.specs.Runs.{Source, Framed, clouds_of}
+use Rattle.simlod_app.specs.Runs.{Source, Framed, frame_step, clouds_of}
 use Rattle.simlod_app.proofs.Readings.{AreRead, all_read, sources, are_sources, refused_next, refused_frame, one_more_read, split_names, one_name_more, rose_later, told_as_before}
 use Rattle.simlod_app.proofs.scan.read_clouds.Goals as goal
 

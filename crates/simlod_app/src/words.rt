@@ -17,7 +17,7 @@ pub fn read_job(alloc: Global, words: &[String]) -> Result<Job, Fault>
 {
     match read_words(alloc, words) {
         Ok(job) => run_here(job),
-        Err(fault) => Err(faults::of_words(alloc, fault)),
+        Err(fault) => Err(faults::words_fault(alloc, fault)),
     }
 }
 
@@ -40,6 +40,6 @@ fn is_run(command: CommandName) -> bool
 {
     match command {
         CommandName::Nodes | CommandName::Bounds | CommandName::Image => true,
-        _ => false,
+        CommandName::Replay | CommandName::Demo | CommandName::Live => false,
     }
 }

@@ -2,7 +2,7 @@ use Rattle.std.proofs.Common.{map}
 use Rattle.std.specs.Prelude.{string_bytes}
 use Rattle.std.proofs.lemmas.Result.{err_from_is_err_and}
 use Rattle.simlod_app.proofs.Jobs.{refused_words}
-use Rattle.simlod_app.proofs.plain.output_of.Goals as goal
+use Rattle.simlod_app.proofs.plain.words_output.Goals as goal
 
 pub returns-in_err-job-clause-gives : goal.returns-in_err-job-clause-gives
 returns-in_err-job-clause-gives g c =

@@ -1,7 +1,7 @@
 use Rattle.std.proofs.Common.{sym, ap}
 use Rattle.run_words.specs.Values.{JobValue}
 use Rattle.simlod_app.proofs.Jobs.{other_command, runs_here}
-use Rattle.simlod_app.proofs.usage.run_here.Goals as goal
+use Rattle.simlod_app.proofs.words.run_here.Goals as goal
 
 pub returns-then-not-is_run-clause-gives : goal.returns-then-not-is_run-clause-gives
 returns-then-not-is_run-clause-gives c =

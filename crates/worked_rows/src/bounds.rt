@@ -1,40 +1,8 @@
-use crate::runs::{files_of, run, run_in, run_over, sound};
+use crate::runs::{files_of, run, run_over, sound};
 use cloud_io::NamedFile;
 use simlod_app::Status;
 use std::alloc::{AllocError, Global};
-use std::process::Abort;
 use std::test::Fail;
-
-/// Asserts that a run over texts succeeds and prints this, and nothing to the error stream.
-fn expect_bounds(
-    rt: &impl Abort,
-    alloc: Global,
-    line: &str,
-    files: &[(&str, &str)],
-    bounds: &str,
-) -> Result<(), Fail> {
-    let outcome = run(alloc, line, files)?;
-    assert_eq!(rt; outcome.status, Status::Ok, "at {line}");
-    assert_eq!(rt; outcome.out.bytes(), bounds.as_bytes(), "at {line}");
-    assert_eq!(rt; outcome.errors.bytes().len(), 0, "at {line}");
-    Ok(())
-}
-
-/// Asserts that a run over files ends with the status, says this line and writes nothing.
-fn expect_refusal(
-    rt: &impl Abort,
-    alloc: Global,
-    line: &str,
-    files: Vec<NamedFile>,
-    status: Status,
-    said: &str,
-) -> Result<(), Fail> {
-    let outcome = run_over(alloc, line, files, sound(alloc))?;
-    assert_eq!(rt; outcome.status, status, "at {line}");
-    assert_eq!(rt; outcome.errors.bytes(), said.as_bytes(), "at {line}");
-    assert_eq!(rt; outcome.out.bytes().len(), 0, "at {line}");
-    Ok(())
-}
 
 /// A LAS file of version 1.2 with two points, (5, 6, 7) in ff8001 and (-1, 0, 2147483647) in black,
 /// whose byte at 155, in the scales and offsets, is as given.
@@ -67,28 +35,20 @@ fn las_file(alloc: Global, name: &str, byte: u8) -> Result<NamedFile, AllocError
 fn bounds_are_the_ends_of_all_points(rt: HostRuntime) -> Result<(), Fail> {
     let text = "-0.0005 0 0\r\n1,2,3,255,0,10\r\n";
     let bounds = "points 2\nmin -1 0 0\nmax 1000 2000 3000\ncube -1 0 0 12\n";
-    expect_bounds(&rt, rt.alloc(), "bounds a.xyz", &[("a.xyz", text)], bounds)?;
+    run(rt.alloc(), "bounds a.xyz", &[("a.xyz", text)])?.expect_output(&rt, bounds.as_bytes());
     let files = [("a.xyz", "5 0 9\n"), ("b.xyz", "7 -3 8\n")];
     let bounds = "points 2\nmin 5 -3 8\nmax 7 0 9\ncube 5 -3 8 7\n";
-    expect_bounds(
-        &rt,
-        rt.alloc(),
-        "bounds --decimals=0 a.xyz b.xyz",
-        &files,
-        bounds,
-    )
+    let outcome = run(rt.alloc(), "bounds --decimals=0 a.xyz b.xyz", &files)?;
+    outcome.expect_output(&rt, bounds.as_bytes());
+    Ok(())
 }
 
 #[test]
 fn bounds_of_no_points_are_a_cube(rt: HostRuntime) -> Result<(), Fail> {
     let bounds = "points 0\ncube 0 0 0 7\n";
-    expect_bounds(
-        &rt,
-        rt.alloc(),
-        "bounds e.xyz",
-        &[("e.xyz", "# none\n")],
-        bounds,
-    )
+    let outcome = run(rt.alloc(), "bounds e.xyz", &[("e.xyz", "# none\n")])?;
+    outcome.expect_output(&rt, bounds.as_bytes());
+    Ok(())
 }
 
 #[test]
@@ -96,15 +56,9 @@ fn las_and_texts_go_in_together(rt: HostRuntime) -> Result<(), Fail> {
     let alloc = rt.alloc();
     let mut files = files_of(alloc, &[("a.xyz", "-4 9 0\n")])?;
     files.push(las_file(alloc, "b.LAS", 0)?)?;
-    let outcome = run_over(
-        alloc,
-        "bounds --decimals=0 a.xyz b.LAS",
-        files,
-        sound(alloc),
-    )?;
-    let bounds = "points 3\nmin -4 0 0\nmax 5 9 2147483647\ncube -4 0 0 31\n";
-    assert_eq!(rt; outcome.status, Status::Ok);
-    assert_eq!(rt; outcome.out.bytes(), bounds.as_bytes());
+    let line = "bounds --decimals=0 a.xyz b.LAS";
+    let bounds = b"points 3\nmin -4 0 0\nmax 5 9 2147483647\ncube -4 0 0 31\n";
+    run_over(alloc, line, files, sound(alloc))?.expect_output(&rt, bounds);
     Ok(())
 }
 
@@ -117,12 +71,10 @@ fn low_bytes_of_colours_are_taken_on_demand(rt: HostRuntime) -> Result<(), Fail>
         let line = format!(in alloc;
             "nodes --leaf=1 --voxels=yes --cube=-1,0,0,31 --rgb={rgb} a.las"
         )?;
-        let outcome = run_over(alloc, line.as_str(), files, sound(alloc))?;
         let listing = format!(in alloc;
             "cube -1 0 0 31\nr inner 2 2\nv 0 {near}\nv 2080768 {far}\nr0 leaf 1\nr1 leaf 0\nr2 leaf 0\nr3 leaf 0\nr4 leaf 1\nr5 leaf 0\nr6 leaf 0\nr7 leaf 0\nnodes 9 points 2\n"
         )?;
-        assert_eq!(rt; outcome.status, Status::Ok, "at {rgb}");
-        assert_eq!(rt; outcome.out.bytes(), listing.as_bytes(), "at {rgb}");
+        run_over(alloc, line.as_str(), files, sound(alloc))?.expect_output(&rt, listing.as_bytes());
     }
     Ok(())
 }
@@ -134,21 +86,16 @@ fn other_scales_or_offsets_name_the_first_las_file(rt: HostRuntime) -> Result<()
     files.push(las_file(alloc, "a.las", 0)?)?;
     files.push(las_file(alloc, "b.las", 1)?)?;
     let said = "simlod: b.las: scales or offsets differ from a.las\n";
-    expect_refusal(
-        &rt,
-        alloc,
-        "bounds a.las b.las",
-        files,
-        Status::BadInput,
-        said,
-    )?;
+    let outcome = run_over(alloc, "bounds a.las b.las", files, sound(alloc))?;
+    outcome.expect_refusal(&rt, Status::BadInput, said);
     let mut files = files_of(alloc, &[("c.xyz", "0 0 0\n")])?;
     files.push(las_file(alloc, "a.las", 0)?)?;
     files.push(las_file(alloc, "b.las", 0)?)?;
     files.push(las_file(alloc, "d.laz", 1)?)?;
     let line = "nodes c.xyz a.las c.xyz b.las d.laz";
     let said = "simlod: d.laz: scales or offsets differ from a.las\n";
-    expect_refusal(&rt, alloc, line, files, Status::BadInput, said)
+    run_over(alloc, line, files, sound(alloc))?.expect_refusal(&rt, Status::BadInput, said);
+    Ok(())
 }
 
 #[test]
@@ -157,47 +104,11 @@ fn a_damaged_las_file_is_named(rt: HostRuntime) -> Result<(), Fail> {
     let files = [("a.xyz", "0 0 0\n"), ("b.las", "LAX"), ("c.Laz", "LAS")];
     let said = "simlod: b.las: not a LAS file\n";
     let line = "bounds a.xyz b.las";
-    expect_refusal(
-        &rt,
-        alloc,
-        line,
-        files_of(alloc, &files)?,
-        Status::BadInput,
-        said,
-    )?;
+    let outcome = run_over(alloc, line, files_of(alloc, &files)?, sound(alloc))?;
+    outcome.expect_refusal(&rt, Status::BadInput, said);
     let said = "simlod: c.Laz: header ends at 3\n";
     let line = "nodes c.Laz b.las";
-    expect_refusal(
-        &rt,
-        alloc,
-        line,
-        files_of(alloc, &files)?,
-        Status::BadInput,
-        said,
-    )
-}
-
-#[test]
-fn every_failing_call_of_bounds_names_its_file(rt: HostRuntime) -> Result<(), Fail> {
-    let alloc = rt.alloc();
-    let files = [("a.xyz", "0 0 0\n"), ("b.xyz", "1 0 0\n")];
-    // Each file is opened, read, and read again at its end.
-    for call in 1..7u64 {
-        let mut outside = sound(alloc);
-        outside.inputs.push(call)?;
-        let outcome = run_in(alloc, "bounds a.xyz b.xyz", &files, outside)?;
-        let said = if call < 4 {
-            "simlod: read fault in a.xyz\n"
-        } else {
-            "simlod: read fault in b.xyz\n"
-        };
-        assert_eq!(rt; outcome.status, Status::ReadFault, "at {call}");
-        assert_eq!(rt; outcome.errors.bytes(), said.as_bytes(), "at {call}");
-        assert_eq!(rt; outcome.out.bytes().len(), 0);
-    }
-    let mut outside = sound(alloc);
-    outside.inputs.push(7)?;
-    let outcome = run_in(alloc, "bounds a.xyz b.xyz", &files, outside)?;
-    assert_eq!(rt; outcome.status, Status::Ok, "after the last call");
+    let outcome = run_over(alloc, line, files_of(alloc, &files)?, sound(alloc))?;
+    outcome.expect_refusal(&rt, Status::BadInput, said);
     Ok(())
 }

@@ -1,34 +1,6 @@
-use crate::runs::run;
+use crate::runs::{THREE, run};
 use simlod_app::Status;
-use std::alloc::Global;
-use std::process::Abort;
 use std::test::Fail;
-
-/// Asserts that a run over these files ends with the status 6, says this line and writes nothing.
-fn expect_limit(
-    rt: &impl Abort,
-    alloc: Global,
-    line: &str,
-    files: &[(&str, &str)],
-    said: &str,
-) -> Result<(), Fail> {
-    let outcome = run(alloc, line, files)?;
-    assert_eq!(rt; outcome.status, Status::Limit, "at {line}");
-    assert_eq!(rt; outcome.errors.bytes(), said.as_bytes(), "at {line}");
-    assert_eq!(rt; outcome.out.bytes().len(), 0, "at {line}");
-    Ok(())
-}
-
-/// Asserts that a run over one file succeeds.
-fn expect_success(rt: &impl Abort, alloc: Global, line: &str, text: &str) -> Result<(), Fail> {
-    let outcome = run(alloc, line, &[("a.xyz", text)])?;
-    assert_eq!(rt; outcome.status, Status::Ok, "at {line}");
-    assert_eq!(rt; outcome.errors.bytes().len(), 0, "at {line}");
-    Ok(())
-}
-
-/// The root splits with its third point, and then there are nine nodes.
-const THREE: &str = "0 0 0\n1 0 0\n200 0 0\n";
 
 #[test]
 fn the_first_batch_past_a_limit_is_named(rt: HostRuntime) -> Result<(), Fail> {
@@ -48,7 +20,8 @@ fn the_first_batch_past_a_limit_is_named(rt: HostRuntime) -> Result<(), Fail> {
         for command in ["nodes", "image"] {
             let alloc = rt.alloc();
             let line = format!(in alloc; "{command} --decimals=0 --leaf=2 {limits} a.xyz")?;
-            expect_limit(&rt, alloc, line.as_str(), &[("a.xyz", THREE)], said)?;
+            let outcome = run(alloc, line.as_str(), &[("a.xyz", THREE)])?;
+            outcome.expect_refusal(&rt, Status::Limit, said);
         }
     }
     Ok(())
@@ -57,9 +30,11 @@ fn the_first_batch_past_a_limit_is_named(rt: HostRuntime) -> Result<(), Fail> {
 #[test]
 fn as_many_as_a_limit_allows_are_admitted(rt: HostRuntime) -> Result<(), Fail> {
     let alloc = rt.alloc();
+    let listing =
+        b"cube 0 0 0 8\nr inner 3 2\nr0 leaf 2\nr1 leaf 1\nr2 leaf 0\nr3 leaf 0\nr4 leaf 0\nr5 leaf 0\nr6 leaf 0\nr7 leaf 0\nnodes 9 points 3\n";
     for limits in ["--nodes=9", "--points=3", "--batch=1 --points=3 --nodes=9"] {
         let line = format!(in alloc; "nodes --decimals=0 --leaf=2 {limits} a.xyz")?;
-        expect_success(&rt, alloc, line.as_str(), THREE)?;
+        run(alloc, line.as_str(), &[("a.xyz", THREE)])?.expect_output(&rt, listing);
     }
     Ok(())
 }
@@ -69,9 +44,11 @@ fn of_one_batch_outside_comes_first_then_points_then_nodes(rt: HostRuntime) -> R
     let alloc = rt.alloc();
     let far = [("a.xyz", "0 0 0\n1 0 0\n256 0 0\n")];
     let line = "nodes --decimals=0 --leaf=2 --cube=0,0,0,8 --points=2 --nodes=8 a.xyz";
-    expect_limit(&rt, alloc, line, &far, "simlod: limit: batch 0 outside 2\n")?;
+    let outcome = run(alloc, line, &far)?;
+    outcome.expect_refusal(&rt, Status::Limit, "simlod: limit: batch 0 outside 2\n");
     let said = "simlod: limit: batch 0 points 0 0 3 2\n";
-    expect_limit(&rt, alloc, line, &[("a.xyz", THREE)], said)
+    run(alloc, line, &[("a.xyz", THREE)])?.expect_refusal(&rt, Status::Limit, said);
+    Ok(())
 }
 
 #[test]
@@ -80,29 +57,19 @@ fn an_earlier_batch_comes_before_every_later_one(rt: HostRuntime) -> Result<(), 
     let text = "0 0 0\n1 0 0\n2 0 0\n3 0 0\n4 0 0\n256 0 0\n";
     let files = [("a.xyz", text)];
     let line = "nodes --decimals=0 --leaf=2 --cube=0,0,0,8 --batch=1 --points=4 --nodes=8 a.xyz";
-    expect_limit(
-        &rt,
-        alloc,
-        line,
-        &files,
-        "simlod: limit: batch 2 nodes 2 9 8\n",
-    )?;
+    let outcome = run(alloc, line, &files)?;
+    outcome.expect_refusal(&rt, Status::Limit, "simlod: limit: batch 2 nodes 2 9 8\n");
     let line = "nodes --decimals=0 --leaf=2 --cube=0,0,0,8 --batch=1 --points=4 a.xyz";
-    expect_limit(
+    let outcome = run(alloc, line, &files)?;
+    outcome.expect_refusal(
         &rt,
-        alloc,
-        line,
-        &files,
+        Status::Limit,
         "simlod: limit: batch 4 points 4 4 1 4\n",
-    )?;
+    );
     let line = "nodes --decimals=0 --leaf=2 --cube=0,0,0,8 --batch=1 a.xyz";
-    expect_limit(
-        &rt,
-        alloc,
-        line,
-        &files,
-        "simlod: limit: batch 5 outside 0\n",
-    )
+    let outcome = run(alloc, line, &files)?;
+    outcome.expect_refusal(&rt, Status::Limit, "simlod: limit: batch 5 outside 0\n");
+    Ok(())
 }
 
 #[test]
@@ -114,5 +81,6 @@ fn batches_of_several_files_are_numbered_on(rt: HostRuntime) -> Result<(), Fail>
     ];
     let line = "nodes --decimals=0 --batch=2 --points=4 a.xyz b.xyz c.xyz";
     let said = "simlod: limit: batch 2 points 2 3 2 4\n";
-    expect_limit(&rt, rt.alloc(), line, &files, said)
+    run(rt.alloc(), line, &files)?.expect_refusal(&rt, Status::Limit, said);
+    Ok(())
 }

@@ -1,34 +1,16 @@
-use crate::runs::run;
-use simlod_app::Status;
-use std::alloc::Global;
-use std::process::Abort;
+use crate::runs::{THREE, run};
 use std::test::Fail;
 
-/// Asserts that a run over one file succeeds and prints this text, and nothing to the error stream.
-fn expect_listing(
-    rt: &impl Abort,
-    alloc: Global,
-    line: &str,
-    name: &str,
-    text: &str,
-    listing: &str,
-) -> Result<(), Fail> {
-    let outcome = run(alloc, line, &[(name, text)])?;
-    assert_eq!(rt; outcome.status, Status::Ok, "at {line}");
-    assert_eq!(rt; outcome.out.bytes(), listing.as_bytes(), "at {line}");
-    assert_eq!(rt; outcome.errors.bytes().len(), 0, "at {line}");
-    Ok(())
-}
-
-const THREE: &str = "0 0 0\n1 0 0\n200 0 0\n";
-
+/// The children of a root of `THREE`.
 const BELOW: &str =
     "r0 leaf 2\nr1 leaf 1\nr2 leaf 0\nr3 leaf 0\nr4 leaf 0\nr5 leaf 0\nr6 leaf 0\nr7 leaf 0\n";
 
 #[test]
 fn an_empty_file_is_one_empty_leaf(rt: HostRuntime) -> Result<(), Fail> {
     let listing = "cube 0 0 0 7\nr leaf 0\nnodes 1 points 0\n";
-    expect_listing(&rt, rt.alloc(), "nodes empty.xyz", "empty.xyz", "", listing)
+    let outcome = run(rt.alloc(), "nodes empty.xyz", &[("empty.xyz", "")])?;
+    outcome.expect_output(&rt, listing.as_bytes());
+    Ok(())
 }
 
 #[test]
@@ -36,26 +18,22 @@ fn one_point_above_the_limit_splits_the_root(rt: HostRuntime) -> Result<(), Fail
     let alloc = rt.alloc();
     let line = "nodes --decimals=0 --leaf=2 three.xyz";
     let plain = format!(in alloc; "cube 0 0 0 8\nr inner 3 2\n{BELOW}nodes 9 points 3\n")?;
-    expect_listing(&rt, alloc, line, "three.xyz", THREE, plain.as_str())?;
+    run(alloc, line, &[("three.xyz", THREE)])?.expect_output(&rt, plain.as_bytes());
     let line = "nodes --voxels=yes --decimals=0 three.xyz --leaf=2";
     let voxels = format!(in alloc;
         "cube 0 0 0 8\nr inner 3 2\nv 0 ffffff\nv 100 ffffff\n{BELOW}nodes 9 points 3\n"
     )?;
-    expect_listing(&rt, alloc, line, "three.xyz", THREE, voxels.as_str())
+    run(alloc, line, &[("three.xyz", THREE)])?.expect_output(&rt, voxels.as_bytes());
+    Ok(())
 }
 
 #[test]
 fn a_count_at_the_limit_stays_a_leaf(rt: HostRuntime) -> Result<(), Fail> {
     let line = "nodes --decimals=0 --leaf=2 two.xyz";
     let listing = "cube 0 0 0 8\nr leaf 2\nnodes 1 points 2\n";
-    expect_listing(
-        &rt,
-        rt.alloc(),
-        line,
-        "two.xyz",
-        "0 0 0\n200 0 0\n",
-        listing,
-    )
+    let outcome = run(rt.alloc(), line, &[("two.xyz", "0 0 0\n200 0 0\n")])?;
+    outcome.expect_output(&rt, listing.as_bytes());
+    Ok(())
 }
 
 #[test]
@@ -63,14 +41,9 @@ fn a_file_that_is_named_twice_is_read_twice(rt: HostRuntime) -> Result<(), Fail>
     let line = "nodes --decimals=0 --leaf=2 two.xyz two.xyz";
     let listing =
         "cube 0 0 0 8\nr inner 4 2\nr0 leaf 2\nr1 leaf 2\nr2 leaf 0\nr3 leaf 0\nr4 leaf 0\nr5 leaf 0\nr6 leaf 0\nr7 leaf 0\nnodes 9 points 4\n";
-    expect_listing(
-        &rt,
-        rt.alloc(),
-        line,
-        "two.xyz",
-        "0 0 0\n200 0 0\n",
-        listing,
-    )
+    let outcome = run(rt.alloc(), line, &[("two.xyz", "0 0 0\n200 0 0\n")])?;
+    outcome.expect_output(&rt, listing.as_bytes());
+    Ok(())
 }
 
 #[test]
@@ -78,7 +51,8 @@ fn the_smallest_cube_stays_a_leaf(rt: HostRuntime) -> Result<(), Fail> {
     let line = "nodes --decimals=0 --leaf=2 five.xyz";
     let text = "9 9 9\n9 9 9\n9 9 9\n9 9 9\n9 9 9\n";
     let listing = "cube 9 9 9 7\nr leaf 5\nnodes 1 points 5\n";
-    expect_listing(&rt, rt.alloc(), line, "five.xyz", text, listing)
+    run(rt.alloc(), line, &[("five.xyz", text)])?.expect_output(&rt, listing.as_bytes());
+    Ok(())
 }
 
 #[test]
@@ -96,7 +70,8 @@ fn equal_points_split_down_to_the_smallest_cube(rt: HostRuntime) -> Result<(), F
         }
     }
     listing.push_str("nodes 25 points 5\n")?;
-    expect_listing(&rt, alloc, line, "z.xyz", text, listing.as_str())
+    run(alloc, line, &[("z.xyz", text)])?.expect_output(&rt, listing.as_bytes());
+    Ok(())
 }
 
 #[test]
@@ -104,9 +79,10 @@ fn the_default_cube_stays_within_the_space(rt: HostRuntime) -> Result<(), Fail> 
     let alloc = rt.alloc();
     let line = "nodes --decimals=0 p.xyz";
     let least = "cube -2147483648 0 0 7\nr leaf 1\nnodes 1 points 1\n";
-    expect_listing(&rt, alloc, line, "p.xyz", "-2147483648 0 0\n", least)?;
+    run(alloc, line, &[("p.xyz", "-2147483648 0 0\n")])?.expect_output(&rt, least.as_bytes());
     let greatest = "cube 2147483520 0 0 7\nr leaf 1\nnodes 1 points 1\n";
-    expect_listing(&rt, alloc, line, "p.xyz", "2147483647 0 0\n", greatest)
+    run(alloc, line, &[("p.xyz", "2147483647 0 0\n")])?.expect_output(&rt, greatest.as_bytes());
+    Ok(())
 }
 
 #[test]
@@ -114,7 +90,7 @@ fn a_given_cube_contains_both_its_ends(rt: HostRuntime) -> Result<(), Fail> {
     let line = "nodes --decimals=0 --cube=0,0,0,7 p.xyz";
     let listing = "cube 0 0 0 7\nr leaf 1\nnodes 1 points 1\n";
     for text in ["127 0 0\n", "0 0 0\n"] {
-        expect_listing(&rt, rt.alloc(), line, "p.xyz", text, listing)?;
+        run(rt.alloc(), line, &[("p.xyz", text)])?.expect_output(&rt, listing.as_bytes());
     }
     Ok(())
 }
@@ -126,22 +102,17 @@ fn a_voxel_has_the_colour_of_the_nearest_point(rt: HostRuntime) -> Result<(), Fa
     let below =
         "r0 leaf 2\nr1 leaf 0\nr2 leaf 0\nr3 leaf 0\nr4 leaf 0\nr5 leaf 0\nr6 leaf 0\nr7 leaf 0\nnodes 9 points 2\n";
     let nearer = format!(in alloc; "cube 0 0 0 8\nr inner 2 1\nv 0 ff0000\n{below}")?;
-    expect_listing(
-        &rt,
-        alloc,
-        line,
-        "p.xyz",
-        "0 0 0\n1 0 0 255 0 0\n",
-        nearer.as_str(),
-    )?;
+    run(alloc, line, &[("p.xyz", "0 0 0\n1 0 0 255 0 0\n")])?.expect_output(&rt, nearer.as_bytes());
     let least_colour = format!(in alloc; "cube 0 0 0 8\nr inner 2 1\nv 0 0000ff\n{below}")?;
     let text = "1 0 1 0 255 0\n1 1 0 0 0 255\n";
-    expect_listing(&rt, alloc, line, "p.xyz", text, least_colour.as_str())
+    run(alloc, line, &[("p.xyz", text)])?.expect_output(&rt, least_colour.as_bytes());
+    Ok(())
 }
 
 #[test]
 fn decimals_are_kept_and_the_rest_rounded_down(rt: HostRuntime) -> Result<(), Fail> {
     let listing = "cube -1 0 0 12\nr leaf 2\nnodes 1 points 2\n";
     let text = "-0.0005 0 0\r\n1,2,3,255,0,10\r\n";
-    expect_listing(&rt, rt.alloc(), "nodes a.xyz", "a.xyz", text, listing)
+    run(rt.alloc(), "nodes a.xyz", &[("a.xyz", text)])?.expect_output(&rt, listing.as_bytes());
+    Ok(())
 }

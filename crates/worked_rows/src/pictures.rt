@@ -1,39 +1,6 @@
 use crate::runs::run;
 use simlod_app::Status;
-use std::alloc::Global;
-use std::process::Abort;
 use std::test::Fail;
-
-/// Asserts that a run over one file succeeds and writes these bytes, and nothing to the error stream.
-fn expect_picture(
-    rt: &impl Abort,
-    alloc: Global,
-    line: &str,
-    text: &str,
-    picture: &[u8],
-) -> Result<(), Fail> {
-    let outcome = run(alloc, line, &[("p.xyz", text)])?;
-    assert_eq!(rt; outcome.status, Status::Ok, "at {line}");
-    assert_eq!(rt; outcome.out.bytes(), picture, "at {line}");
-    assert_eq!(rt; outcome.errors.bytes().len(), 0, "at {line}");
-    Ok(())
-}
-
-/// Asserts that a run over one file ends with the status, says this line and writes nothing.
-fn expect_no_picture(
-    rt: &impl Abort,
-    alloc: Global,
-    line: &str,
-    text: &str,
-    status: Status,
-    said: &str,
-) -> Result<(), Fail> {
-    let outcome = run(alloc, line, &[("p.xyz", text)])?;
-    assert_eq!(rt; outcome.status, status, "at {line}");
-    assert_eq!(rt; outcome.errors.bytes(), said.as_bytes(), "at {line}");
-    assert_eq!(rt; outcome.out.bytes().len(), 0, "at {line}");
-    Ok(())
-}
 
 /// A camera close to six points, of which two lie nearer than the near plane or behind it.
 const CLOSE: &str =
@@ -47,14 +14,16 @@ const NINE_PIXELS: &[u8] =
 
 #[test]
 fn the_nearest_points_are_seen(rt: HostRuntime) -> Result<(), Fail> {
-    expect_picture(&rt, rt.alloc(), CLOSE, SIX, NINE_PIXELS)
+    run(rt.alloc(), CLOSE, &[("p.xyz", SIX)])?.expect_output(&rt, NINE_PIXELS);
+    Ok(())
 }
 
 #[test]
 fn points_in_another_order_have_the_same_picture(rt: HostRuntime) -> Result<(), Fail> {
     let text =
         "99 100 130 128 128 128\n101 100 110 0 0 255\n101 100 110 0 255 0\n100 100 50 0 0 2\n100 100 104 0 0 1\n100 100 105 255 0 0\n";
-    expect_picture(&rt, rt.alloc(), CLOSE, text, NINE_PIXELS)
+    run(rt.alloc(), CLOSE, &[("p.xyz", text)])?.expect_output(&rt, NINE_PIXELS);
+    Ok(())
 }
 
 /// Two points far away in a cube that is split, seen by a pixel.
@@ -65,20 +34,23 @@ fn a_node_that_appears_small_is_drawn_by_its_voxels(rt: HostRuntime) -> Result<(
     // The middle of the cell of both points at the left is (1, 1, 1), and the blue one is the nearer to it.
     let line =
         "image --decimals=0 --leaf=2 --cube=0,0,0,8 --pos=0,0,-1000 --focal=1000 --near=1 --size=1,1 --threshold=65536 p.xyz";
-    expect_picture(&rt, rt.alloc(), line, SPLIT, b"P6\n1 1\n255\n\0\0\xff")
+    run(rt.alloc(), line, &[("p.xyz", SPLIT)])?.expect_output(&rt, b"P6\n1 1\n255\n\0\0\xff");
+    Ok(())
 }
 
 #[test]
 fn a_node_that_appears_large_is_drawn_by_those_below_it(rt: HostRuntime) -> Result<(), Fail> {
     let line =
         "image --decimals=0 --leaf=2 --cube=0,0,0,8 --pos=0,0,-1000 --focal=1000 --near=1 --size=1,1 --threshold=1 p.xyz";
-    expect_picture(&rt, rt.alloc(), line, SPLIT, b"P6\n1 1\n255\n\xff\0\0")
+    run(rt.alloc(), line, &[("p.xyz", SPLIT)])?.expect_output(&rt, b"P6\n1 1\n255\n\xff\0\0");
+    Ok(())
 }
 
 #[test]
 fn no_points_give_a_black_picture(rt: HostRuntime) -> Result<(), Fail> {
     let line = "image --size=1,2 p.xyz";
-    expect_picture(&rt, rt.alloc(), line, "", b"P6\n1 2\n255\n\0\0\0\0\0\0")
+    run(rt.alloc(), line, &[("p.xyz", "")])?.expect_output(&rt, b"P6\n1 2\n255\n\0\0\0\0\0\0");
+    Ok(())
 }
 
 #[test]
@@ -87,10 +59,11 @@ fn numbers_at_the_ends_of_the_cameras_ranges_are_taken(rt: HostRuntime) -> Resul
     let point = "0 0 0 1 2 3\n";
     let line =
         "image --decimals=0 --pos=-2147483648,2147483647,-2147483648 --rows=1024,-1024,1024,-1024,1024,-1024,0,0,1024 --focal=65536 --near=1000000000 --threshold=65536 --dot=64 --size=1,1 p.xyz";
-    expect_picture(&rt, alloc, line, point, b"P6\n1 1\n255\n\0\0\0")?;
+    run(alloc, line, &[("p.xyz", point)])?.expect_output(&rt, b"P6\n1 1\n255\n\0\0\0");
     let line =
         "image --decimals=0 --pos=0,0,-1 --focal=1 --near=1 --threshold=1 --dot=1 --size=1,1 p.xyz";
-    expect_picture(&rt, alloc, line, point, b"P6\n1 1\n255\n\x01\x02\x03")
+    run(alloc, line, &[("p.xyz", point)])?.expect_output(&rt, b"P6\n1 1\n255\n\x01\x02\x03");
+    Ok(())
 }
 
 #[test]
@@ -113,7 +86,8 @@ fn numbers_past_the_ends_are_refused_by_the_options_name(rt: HostRuntime) -> Res
         let line = format!(in alloc; "image {value} p.xyz")?;
         let name = value.split_once('=').ok_or("an option")?.0;
         let said = format!(in alloc; "simlod: usage: value of {name}\n")?;
-        expect_no_picture(&rt, alloc, line.as_str(), "", Status::Usage, said.as_str())?;
+        let outcome = run(alloc, line.as_str(), &[("p.xyz", "")])?;
+        outcome.expect_refusal(&rt, Status::Usage, said.as_str());
     }
     Ok(())
 }
@@ -122,5 +96,6 @@ fn numbers_past_the_ends_are_refused_by_the_options_name(rt: HostRuntime) -> Res
 fn a_batch_outside_the_cube_has_no_picture(rt: HostRuntime) -> Result<(), Fail> {
     let line = "image --decimals=0 --cube=0,0,0,7 p.xyz";
     let said = "simlod: limit: batch 0 outside 0\n";
-    expect_no_picture(&rt, rt.alloc(), line, "128 0 0\n", Status::Limit, said)
+    run(rt.alloc(), line, &[("p.xyz", "128 0 0\n")])?.expect_refusal(&rt, Status::Limit, said);
+    Ok(())
 }

@@ -1,24 +1,6 @@
-use crate::runs::{run, run_in, sound};
+use crate::runs::{THREE, run, run_in, sound};
 use simlod_app::Status;
-use std::alloc::Global;
-use std::process::Abort;
 use std::test::Fail;
-
-/// Asserts that a run over one file ends with the status, says this line and writes nothing.
-fn expect_refusal(
-    rt: &impl Abort,
-    alloc: Global,
-    line: &str,
-    text: &str,
-    status: Status,
-    said: &str,
-) -> Result<(), Fail> {
-    let outcome = run(alloc, line, &[("p.xyz", text)])?;
-    assert_eq!(rt; outcome.status, status, "at {line}");
-    assert_eq!(rt; outcome.errors.bytes(), said.as_bytes(), "at {line}");
-    assert_eq!(rt; outcome.out.bytes().len(), 0, "at {line}");
-    Ok(())
-}
 
 #[test]
 fn words_that_are_no_job_are_refused_in_order(rt: HostRuntime) -> Result<(), Fail> {
@@ -39,7 +21,7 @@ fn words_that_are_no_job_are_refused_in_order(rt: HostRuntime) -> Result<(), Fai
         ),
     ];
     for (line, said) in rows {
-        expect_refusal(&rt, rt.alloc(), line, "0 0 0\n", Status::Usage, said)?;
+        run(rt.alloc(), line, &[("p.xyz", "0 0 0\n")])?.expect_refusal(&rt, Status::Usage, said);
     }
     Ok(())
 }
@@ -52,7 +34,7 @@ fn jobs_that_are_not_run_here_are_refused(rt: HostRuntime) -> Result<(), Fail> {
         ("demo", "simlod: usage: command\n"),
     ];
     for (line, said) in rows {
-        expect_refusal(&rt, rt.alloc(), line, "0 0 0\n", Status::Usage, said)?;
+        run(rt.alloc(), line, &[("p.xyz", "0 0 0\n")])?.expect_refusal(&rt, Status::Usage, said);
     }
     Ok(())
 }
@@ -75,7 +57,8 @@ fn a_bad_line_is_named_with_its_field(rt: HostRuntime) -> Result<(), Fail> {
         ),
     ];
     for (text, said) in rows {
-        expect_refusal(&rt, rt.alloc(), "nodes p.xyz", text, Status::BadInput, said)?;
+        let outcome = run(rt.alloc(), "nodes p.xyz", &[("p.xyz", text)])?;
+        outcome.expect_refusal(&rt, Status::BadInput, said);
     }
     Ok(())
 }
@@ -84,14 +67,9 @@ fn a_bad_line_is_named_with_its_field(rt: HostRuntime) -> Result<(), Fail> {
 fn a_missing_file_is_named(rt: HostRuntime) -> Result<(), Fail> {
     let alloc = rt.alloc();
     let line = "nodes p.xyz three.xyz";
-    expect_refusal(
-        &rt,
-        alloc,
-        line,
-        "0 0 0\n",
-        Status::NoFile,
-        "simlod: no file three.xyz\n",
-    )
+    let outcome = run(alloc, line, &[("p.xyz", "0 0 0\n")])?;
+    outcome.expect_refusal(&rt, Status::NoFile, "simlod: no file three.xyz\n");
+    Ok(())
 }
 
 #[test]
@@ -99,28 +77,18 @@ fn a_point_outside_the_given_cube_names_its_batch(rt: HostRuntime) -> Result<(),
     let alloc = rt.alloc();
     let line = "nodes --decimals=0 --cube=0,0,0,7 p.xyz";
     let said = "simlod: limit: batch 0 outside 0\n";
-    expect_refusal(&rt, alloc, line, "128 0 0\n", Status::Limit, said)?;
+    run(alloc, line, &[("p.xyz", "128 0 0\n")])?.expect_refusal(&rt, Status::Limit, said);
     let line = "nodes --decimals=0 --cube=0,0,0,7 --batch=2 p.xyz p.xyz";
     let said = "simlod: limit: batch 1 outside 0\n";
-    expect_refusal(
-        &rt,
-        alloc,
-        line,
-        "0 0 0\n1 0 0\n-1 0 0\n",
-        Status::Limit,
-        said,
-    )?;
+    let outcome = run(alloc, line, &[("p.xyz", "0 0 0\n1 0 0\n-1 0 0\n")])?;
+    outcome.expect_refusal(&rt, Status::Limit, said);
     let files = [
         ("a.xyz", "0 0 0\n1 0 0\n2 0 0\n"),
         ("b.xyz", "3 0 0\n0 128 0\n"),
     ];
     let line = "nodes --decimals=0 --cube=0,0,0,7 --batch=2 a.xyz b.xyz";
-    let outcome = run(alloc, line, &files)?;
-    assert_eq!(rt; outcome.status, Status::Limit);
-    assert_eq!(rt;
-        outcome.errors.bytes(),
-        "simlod: limit: batch 2 outside 1\n".as_bytes()
-    );
+    let said = "simlod: limit: batch 2 outside 1\n";
+    run(alloc, line, &files)?.expect_refusal(&rt, Status::Limit, said);
     Ok(())
 }
 
@@ -128,17 +96,12 @@ fn a_point_outside_the_given_cube_names_its_batch(rt: HostRuntime) -> Result<(),
 fn points_too_far_apart_have_no_cube(rt: HostRuntime) -> Result<(), Fail> {
     let text = "-2147483648 0 0\n2147483647 0 0\n";
     let said = "simlod: limit: axis x spans 4294967295\n";
-    expect_refusal(
-        &rt,
-        rt.alloc(),
-        "nodes --decimals=0 p.xyz",
-        text,
-        Status::Limit,
-        said,
-    )
+    let outcome = run(rt.alloc(), "nodes --decimals=0 p.xyz", &[("p.xyz", text)])?;
+    outcome.expect_refusal(&rt, Status::Limit, said);
+    Ok(())
 }
 
-const THREE: &[(&str, &str)] = &[("three.xyz", "0 0 0\n1 0 0\n200 0 0\n")];
+const FILES: &[(&str, &str)] = &[("three.xyz", THREE)];
 
 const LINE: &str = "nodes --decimals=0 --leaf=2 three.xyz";
 
@@ -148,7 +111,7 @@ fn a_failing_output_keeps_a_first_part(rt: HostRuntime) -> Result<(), Fail> {
     let mut outside = sound(alloc);
     outside.piece = 10;
     outside.out.push(2)?;
-    let outcome = run_in(alloc, LINE, THREE, outside)?;
+    let outcome = run_in(alloc, LINE, FILES, outside)?;
     assert_eq!(rt; outcome.status, Status::OutputFault);
     assert_eq!(rt; outcome.out.bytes(), "cube 0 0 0".as_bytes());
     assert_eq!(rt; outcome.errors.bytes(), "simlod: output fault\n".as_bytes());
@@ -177,23 +140,20 @@ fn every_failing_call_names_its_file(rt: HostRuntime) -> Result<(), Fail> {
     let alloc = rt.alloc();
     let files = [("a.xyz", "0 0 0\n"), ("b.xyz", "1 0 0\n")];
     // Each file is opened, read, and read again at its end.
-    for call in 1..7u64 {
+    let first = "simlod: read fault in a.xyz\n";
+    let second = "simlod: read fault in b.xyz\n";
+    for line in ["nodes a.xyz b.xyz", "bounds a.xyz b.xyz"] {
+        for call in 1..7u64 {
+            let said = if call < 4 { first } else { second };
+            let mut outside = sound(alloc);
+            outside.inputs.push(call)?;
+            run_in(alloc, line, &files, outside)?.expect_refusal(&rt, Status::ReadFault, said);
+        }
         let mut outside = sound(alloc);
-        outside.inputs.push(call)?;
-        let outcome = run_in(alloc, "nodes a.xyz b.xyz", &files, outside)?;
-        let said = if call < 4 {
-            "simlod: read fault in a.xyz\n"
-        } else {
-            "simlod: read fault in b.xyz\n"
-        };
-        assert_eq!(rt; outcome.status, Status::ReadFault, "at {call}");
-        assert_eq!(rt; outcome.errors.bytes(), said.as_bytes(), "at {call}");
-        assert_eq!(rt; outcome.out.bytes().len(), 0);
+        outside.inputs.push(7)?;
+        let outcome = run_in(alloc, line, &files, outside)?;
+        assert_eq!(rt; outcome.status, Status::Ok, "after the last call of {line}");
     }
-    let mut outside = sound(alloc);
-    outside.inputs.push(7)?;
-    let outcome = run_in(alloc, "nodes a.xyz b.xyz", &files, outside)?;
-    assert_eq!(rt; outcome.status, Status::Ok, "after the last call");
     Ok(())
 }
 
@@ -211,7 +171,7 @@ fn a_failing_error_stream_changes_no_status(rt: HostRuntime) -> Result<(), Fail>
     ] {
         let mut outside = sound(alloc);
         outside.errors.push(1)?;
-        let outcome = run_in(alloc, line, THREE, outside)?;
+        let outcome = run_in(alloc, line, FILES, outside)?;
         assert_eq!(rt; outcome.status, status, "at {line}");
         assert_eq!(rt; outcome.errors.bytes().len(), 0);
     }

@@ -1,16 +1,39 @@
-//! A run in memory.
+//! A run in memory, and what is expected of it.
 ghost use Rattle.std.specs.Prelude.{◌≤◌};
 
 use cloud_io::{MemInputs, MemSink, NamedFile};
 use simlod_app::{Status, simlod_plain};
 use std::alloc::{AllocError, Global};
+use std::process::Abort;
 
-/// What a run left.
+/// Three points, with the third of which a root of at most two points splits.
+pub const THREE: &str = "0 0 0\n1 0 0\n200 0 0\n";
+
+/// What the run of a line left.
 #[derive(Drop)]
-pub struct Outcome {
+pub struct Outcome<'a> {
+    pub line: &'a str,
     pub status: Status,
     pub out: MemSink,
     pub errors: MemSink,
+}
+
+impl Outcome<'_> {
+    /// Asserts that the run succeeded and wrote this output, and nothing to the error stream.
+    pub fn expect_output(&self, rt: &impl Abort, output: &[u8]) {
+        let line = self.line;
+        assert_eq!(rt; self.status, Status::Ok, "at {line}");
+        assert_eq!(rt; self.out.bytes(), output, "at {line}");
+        assert_eq!(rt; self.errors.bytes().len(), 0, "at {line}");
+    }
+
+    /// Asserts that the run ended with the status, said this line and wrote nothing.
+    pub fn expect_refusal(&self, rt: &impl Abort, status: Status, said: &str) {
+        let line = self.line;
+        assert_eq!(rt; self.status, status, "at {line}");
+        assert_eq!(rt; self.errors.bytes(), said.as_bytes(), "at {line}");
+        assert_eq!(rt; self.out.bytes().len(), 0, "at {line}");
+    }
 }
 
 /// Which calls of the outside fail, by their numbers from 1, and how much one write takes.
@@ -34,27 +57,31 @@ pub fn sound(alloc: Global) -> Outside {
 }
 
 /// Runs the words of a line, parted by single spaces, over these files.
-pub fn run(alloc: Global, line: &str, files: &[(&str, &str)]) -> Result<Outcome, AllocError> {
+pub fn run<'a>(
+    alloc: Global,
+    line: &'a str,
+    files: &[(&str, &str)],
+) -> Result<Outcome<'a>, AllocError> {
     run_in(alloc, line, files, sound(alloc))
 }
 
 /// The same in an outside where calls fail.
-pub fn run_in(
+pub fn run_in<'a>(
     alloc: Global,
-    line: &str,
+    line: &'a str,
     files: &[(&str, &str)],
     outside: Outside,
-) -> Result<Outcome, AllocError> {
+) -> Result<Outcome<'a>, AllocError> {
     run_over(alloc, line, files_of(alloc, files)?, outside)
 }
 
 /// The same over files of any bytes.
-pub fn run_over(
+pub fn run_over<'a>(
     alloc: Global,
-    line: &str,
+    line: &'a str,
     files: Vec<NamedFile>,
     outside: Outside,
-) -> Result<Outcome, AllocError> {
+) -> Result<Outcome<'a>, AllocError> {
     let words = words_of(alloc, line)?;
     let Outside {
         inputs,
@@ -67,6 +94,7 @@ pub fn run_over(
     let mut errors = MemSink::new(alloc, errors, piece);
     let status = simlod_plain(alloc, words.as_slice(), &mut inputs, &mut out, &mut errors);
     Ok(Outcome {
+        line,
         status,
         out,
         errors,

@@ -1,33 +1,26 @@
 -- Ascending lists of numbers by the numbers that stand in them.
-use Rattle.std.proofs.Common.{◌≡◌, ℕ, zero, suc, ◌+◌, ◌<◌, ◌≤◌, Bool, true, false, ◌||◌, ◌&&◌, List, [], ◌∷◌, ◌++◌, map, take, ap, refl, sym, arith, ◌∙◌, nat_eq, nat_lt, cond, append_assoc, add-suc}
-use Rattle.std.specs.List.{filter}
+use Rattle.std.proofs.Common.{◌≡◌, ℕ, zero, suc, ◌+◌, ◌<◌, ◌≤◌, Bool, true, false, ◌||◌, ◌&&◌, List, [], ◌∷◌, ◌++◌, map, take, ap, refl, sym, arith, ◌∙◌, nat_eq, nat_lt}
+use Rattle.std.specs.List.{All, filter}
 use Rattle.std.proofs.lemmas.Bool.{lt-ltb, eq-eqb, ltb-true, and_parts}
-use Rattle.std.proofs.lemmas.List.{append-nil, map-append}
+use Rattle.std.proofs.Math.Bool.{or_assoc, or-true}
+use Rattle.std.proofs.lemmas.List.Elements.{All-nil, All-cons, All-head, All-tail}
 use Rattle.octree_model.specs.Numbers.{up_to, has, with_number, ascending}
 use Rattle.octree_model.proofs.AscendingLaws.{has-ascending}
 use Rattle.octree_model.proofs.FilterLaws.{filter_same, filter_none, filter_with, has-filter}
 
-or_assoc : (a b c : Bool) → (a || (b || c)) ≡ ((a || b) || c)
-or_assoc true b c = refl
-or_assoc false b c = refl
-
-or_true : (b : Bool) → (b || true) ≡ true
-or_true true = refl
-or_true false = refl
-
-or_more : (a b c : Bool) → (b ≡ true → c ≡ true) → (a || b) ≡ true → (a || c) ≡ true
+pub or_more : (a b c : Bool) → (b ≡ true → c ≡ true) → (a || b) ≡ true → (a || c) ≡ true
 or_more true b c more h = refl
 or_more false b c more h = more h
 
 pub has-append : (z : ℕ) (xs ys : List ℕ) → has z (xs ++ ys) ≡ (has z xs || has z ys)
 has-append z [] ys = refl
-has-append z (x ∷ xs) ys = ap (λ b. nat_eq z x || b) (has-append z xs ys) ∙ or_assoc (nat_eq z x) (has z xs) (has z ys)
+has-append z (x ∷ xs) ys = ap (λ b. nat_eq z x || b) (has-append z xs ys) ∙ sym (or_assoc (nat_eq z x) (has z xs) (has z ys))
 
 pub has_left : (z : ℕ) (xs ys : List ℕ) → has z xs ≡ true → has z (xs ++ ys) ≡ true
 has_left z xs ys h = has-append z xs ys ∙ ap (λ b. b || has z ys) h
 
 pub has_right : (z : ℕ) (xs ys : List ℕ) → has z ys ≡ true → has z (xs ++ ys) ≡ true
-has_right z xs ys h = has-append z xs ys ∙ ap (λ b. has z xs || b) h ∙ or_true (has z xs)
+has_right z xs ys h = has-append z xs ys ∙ ap (λ b. has z xs || b) h ∙ or-true (has z xs)
 
 -- what stands among the first ones stands in the whole list
 pub has_first : {X : Type 0} (f : X → ℕ) (z i : ℕ) (xs : List X) → has z (map f (take i xs)) ≡ true → has z (map f xs) ≡ true
@@ -40,9 +33,17 @@ abbrev pub AllUnder : ℕ → List ℕ → Type 0
 AllUnder n [] = Unit {0}
 AllUnder n (x ∷ xs) = (x < n) × AllUnder n xs
 
+pub all_under : (n : ℕ) (xs : List ℕ) → All (λ x. x < n) xs → AllUnder n xs
+all_under n [] h = tt
+all_under n (x ∷ xs) h = (All-head (λ x. x < n) x xs h, all_under n xs (All-tail (λ x. x < n) x xs h))
+
+pub under_all : (n : ℕ) (xs : List ℕ) → AllUnder n xs → All (λ x. x < n) xs
+under_all n [] h = All-nil (λ x. x < n)
+under_all n (x ∷ xs) h = All-cons (λ x. x < n) x xs h.0 (under_all n xs h.1)
+
 pub under_by_has : (n : ℕ) (xs : List ℕ) → ((z : ℕ) → has z xs ≡ true → z < n) → AllUnder n xs
 under_by_has n [] h = tt
-under_by_has n (x ∷ xs) h = (h x (ap (λ b. b || has x xs) (eq-eqb x x refl)), under_by_has n xs (λ z e. h z (ap (λ b. nat_eq z x || b) e ∙ or_true (nat_eq z x))))
+under_by_has n (x ∷ xs) h = (h x (ap (λ b. b || has x xs) (eq-eqb x x refl)), under_by_has n xs (λ z e. h z (ap (λ b. nat_eq z x || b) e ∙ or-true (nat_eq z x))))
 
 -- a number above all of a list
 abbrev above : List ℕ → ℕ
@@ -75,17 +76,3 @@ pub ascending_passing : (t : ℕ → Bool) (n : ℕ) → ascending (filter t (up
 ascending_passing t n =
     ascending-filter n (filter t (up_to n)) (under_by_has n (filter t (up_to n)) (λ z h. ltb-true z n (and_parts (nat_lt z n) (t z) (sym (has-filter z t n) ∙ h)).0))
     ∙ filter_same t (λ z. has z (filter t (up_to n))) n (λ i l. has-filter i t n ∙ ap (λ b. b && t i) (lt-ltb _ _ l))
-
--- ---- the numbers below a sum
-pub up_to-add : (a b : ℕ) → up_to (a + b) ≡ up_to a ++ map (λ i. a + i) (up_to b)
-up_to-add a zero = let e : a + 0 ≡ a = omega arith in ap up_to e ∙ sym (append-nil (up_to a))
-up_to-add a (suc b) =
-    rw (add-suc a b) (ap (λ (ks : List ℕ). ks ++ (a + b) ∷ []) (up_to-add a b) ∙ append_assoc (up_to a) (map (λ i. a + i) (up_to b)) ((a + b) ∷ [])
-    ∙ ap (λ (ks : List ℕ). up_to a ++ ks) (sym (map-append (λ i. a + i) (up_to b) (b ∷ []))))
-
-pub filter-map : (t : ℕ → Bool) (f : ℕ → ℕ) (ks : List ℕ) → filter t (map f ks) ≡ map f (filter (λ k. t (f k)) ks)
-filter-map t f [] = refl
-filter-map t f (k ∷ ks) = elim (t (f k)) as (λ b. cond b (f k ∷ filter t (map f ks)) (filter t (map f ks)) ≡ map f (cond b (k ∷ filter (λ k. t (f k)) ks) (filter (λ k. t (f k)) ks))) [
-  | true ↦ ap (λ xs. f k ∷ xs) (filter-map t f ks)
-  | false ↦ filter-map t f ks
-]

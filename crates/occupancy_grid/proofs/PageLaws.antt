@@ -3,17 +3,18 @@ use Rattle.std.proofs.Common.{◌≡◌, ℕ, suc, ◌+◌, ◌*◌, ◌/◌, �
 use Rattle.std.specs.List.{filter}
 use Rattle.std.specs.Int.{w64}
 use Rattle.std.proofs.lemmas.Bool.{cases_lt, cases_eq, lt-ltb, eq-eqb, ne_eqb}
-use Rattle.std.proofs.lemmas.List.{length-set, get_or-set_same, get_or-set_other, get_or_past, map-set, length-map, get_or-map, set-get_or, get_or_read, map-append, map_more}
+use Rattle.std.proofs.lemmas.List.{length-set, get_or-set_same, get_or-set_other, get_or_past, map-set, length-map, get_or-map, set-get_or, get_or_read, map_more}
 use Rattle.std.proofs.lemmas.List.Elements.{filter-append}
+use Rattle.std.proofs.lemmas.List.Sums.{length-filter, count_by-le-length}
 use Rattle.std.specs.Int.{from_bool}
 use Rattle.std.proofs.lemmas.Nat.Bits.{bit_at_set_same, bit_at_set_other, bit_at-zero}
 use Rattle.octree_model.specs.Numbers.{up_to, has, with_number, ascending}
 use Rattle.octree_model.proofs.AscendingLaws.{with_number_before, with_number_behind}
 use Rattle.octree_model.proofs.NumberLaws.{length-up_to}
 use Rattle.octree_model.proofs.FilterLaws.{filter_same, filter_none, filter_with, has-filter}
-use Rattle.octree_plain.specs.CellSets.{is_marked as is_set_in, marked_cells as cells_in, set_bits}
-use Rattle.octree_plain.proofs.Words.{is_set, with_bit, cells_of_first, next_word}
-use Rattle.occupancy_grid.proofs.NumberSets.{ascending_passing, has_left, has_first, has-append, up_to-add, filter-map}
+use Rattle.octree_plain.specs.CellSets.{is_marked as is_set_in, marked_cells as cells_in}
+use Rattle.octree_plain.proofs.Words.{is_set, with_bit, up_to-add, filter-map}
+use Rattle.occupancy_grid.proofs.NumberSets.{ascending_passing, or_more, has_left, has_first, has-append}
 use Rattle.occupancy_grid.specs.Grids.{GridValue, AddsSomePages}
 use Rattle.octree_model.proofs.AscendingLaws.{ascending_push, has-ascending}
 use Rattle.occupancy_grid.specs.Pages.{page_of, words_of, is_made, is_marked, marked_cells, made_pages, IsPaged, HasNoPages, IsFullOfZeros, IsMadeOf}
@@ -115,20 +116,13 @@ pub has-made_pages : (pages : List (List ℕ)) (p : ℕ) → p < length pages �
 unfolding made_pages
 has-made_pages pages p l = has-filter p (is_made pages) (length pages) ∙ ap (λ b. b && is_made pages p) (lt-ltb _ _ l)
 
-length-filter : (t : ℕ → Bool) (ks : List ℕ) → length (filter t ks) ≤ length ks
-length-filter t [] = omega arith
-length-filter t (k ∷ ks) = elim (t k) as (λ b. length (cond b (k ∷ filter t ks) (filter t ks)) ≤ length (k ∷ ks)) [
-  | true ↦ omega (arith, length-filter t ks)
-  | false ↦ omega (arith, length-filter t ks)
-]
-
 -- the page of a cell that may be put in has all its words
 pub all_words : (pages : List (List ℕ)) (count z : ℕ) → IsPaged pages count → z < 2 ^ 21 → has (page_of z) (made_pages pages) ≡ true → length (words_of pages (page_of z)) ≡ 512
 all_words pages count z paged l made = paged.whole (page_of z) (sym (has-made_pages pages (page_of z) (omega (arith, paged.many))) ∙ made)
 
 pub few_cells : (pages : List (List ℕ)) → length (marked_cells pages) ≤ 32768 * length pages
 unfolding marked_cells
-few_cells pages = omega (arith, length-filter (is_marked pages) (up_to (32768 * length pages)), length-up_to (32768 * length pages))
+few_cells pages = omega (arith, length-filter (is_marked pages) (up_to (32768 * length pages)), count_by-le-length (is_marked pages) (up_to (32768 * length pages)), length-up_to (32768 * length pages))
 
 -- ---- the number of cells
 new_number : (n : ℕ) (ks : List ℕ) → has n ks ≡ false → length (with_number n ks) ≡ length ks + 1
@@ -339,28 +333,10 @@ some_pages old new cells i same pages = record {
   kept = λ p h. ap (has p) pages ∙ has-ascending p (old.pages ++ map page_of (take i cells)) ∙ has_left p old.pages (map page_of (take i cells)) h;
   few = λ p h.
       let h' : has p (old.pages ++ map page_of (take i cells)) ≡ true = sym (ap (has p) pages ∙ has-ascending p (old.pages ++ map page_of (take i cells))) ∙ h in
-      has-append p old.pages (map page_of cells) ∙ either (has p old.pages) (has p (map page_of (take i cells))) (has p (map page_of cells)) (has_first page_of p i cells) (sym (has-append p old.pages (map page_of (take i cells))) ∙ h');
+      has-append p old.pages (map page_of cells) ∙ or_more (has p old.pages) (has p (map page_of (take i cells))) (has p (map page_of cells)) (has_first page_of p i cells) (sym (has-append p old.pages (map page_of (take i cells))) ∙ h');
 }
-  where
-    either : (a b c : Bool) → (b ≡ true → c ≡ true) → (a || b) ≡ true → (a || c) ≡ true
-    either true b c more e = refl
-    either false b c more e = more e
 
 -- ---- the cells of a page
-shifted : (a b : ℕ) (ks : List ℕ) → map (λ z. a + z) (map (λ z. b + z) ks) ≡ map (λ z. (a + b) + z) ks
-shifted a b [] = refl
-shifted a b (k ∷ ks) = let e : a + (b + k) ≡ (a + b) + k = omega arith in ap (λ n. n ∷ map (λ z. a + z) (map (λ z. b + z) ks)) e ∙ ap (λ (xs : List ℕ). ((a + b) + k) ∷ xs) (shifted a b ks)
-
--- one word more of a page
-pub next_places : (words : List ℕ) (first k word : ℕ) (old cells cells' : List ℕ) → word ≡ get_or words k 0 → cells ≡ old ++ map (λ z. first + z) (cells_of_first words k)
-    → cells' ≡ cells ++ map (λ b. (first + 64 * k) + b) (set_bits word) → cells' ≡ old ++ map (λ z. first + z) (cells_of_first words (k + 1))
-next_places words first k word old cells cells' at before pushed =
-    pushed ∙ ap (λ (ks : List ℕ). ks ++ map (λ b. (first + 64 * k) + b) (set_bits word)) before
-    ∙ append_assoc old (map (λ z. first + z) (cells_of_first words k)) (map (λ b. (first + 64 * k) + b) (set_bits word))
-    ∙ ap (λ (ks : List ℕ). old ++ (map (λ z. first + z) (cells_of_first words k) ++ ks)) (sym (shifted first (64 * k) (set_bits word)))
-    ∙ ap (λ (ks : List ℕ). old ++ ks) (sym (map-append (λ z. first + z) (cells_of_first words k) (map (λ b. 64 * k + b) (set_bits word))))
-    ∙ ap (λ (ks : List ℕ). old ++ map (λ z. first + z) ks) (sym (next_word words k word at))
-
 unset : (words : List ℕ) (i : ℕ) → length words ≡ 0 → is_set_in words i ≡ false
 unset words i none = ap (λ w. is_set w (i % 64)) (get_or_past words (i / 64) 0 (omega arith)) ∙ ap (λ n. nat_eq n 1) (bit_at-zero (i % 64))
 

@@ -1,9 +1,9 @@
-ghost use Rattle.std.specs.Prelude.{◌≡◌, ◌+◌, ◌<◌, ◌≤◌, ◌^◌, [], ◌++◌, All, IsTrue, IfOk, OnOk, OnErr, not, map, length, vec_len, vec_items};
+ghost use Rattle.std.specs.Prelude.{◌≡◌, ◌<◌, ◌^◌, [], ◌++◌, All, IsTrue, IfOk, OnOk, OnErr, not, map, length, vec_items};
 ghost use Rattle.octree_model.specs.Numbers.{has, with_number, ascending};
-ghost use Rattle.octree_plain.specs.CellSets.{set_bits, marked_cells as cells_in};
-ghost use Rattle.occupancy_grid.specs.Pages.{page_of, is_made, is_marked, marked_cells, made_pages, HasNoPages, IsMadeOf};
+ghost use Rattle.occupancy_grid.specs.Pages.{page_of, marked_cells, made_pages, HasNoPages, IsMadeOf};
 ghost use Rattle.occupancy_grid.specs.Grids.{AddsSomePages};
 
+use octree_plain::push_marked_cells;
 use std::alloc::{AllocError, Global};
 use std::marker::Model;
 
@@ -110,7 +110,7 @@ impl Grid {
     {
         let mut cells = Vec::with_capacity(*self.pages.allocator(), self.count as usize)?;
         for (p, page) in self.pages.iter().enumerate() {
-            push_cells(&mut cells, (PAGE_CELLS * p) as u32, page)?;
+            push_marked_cells(&mut cells, (PAGE_CELLS * p) as u32, page)?;
         }
         Ok(cells)
     }
@@ -134,32 +134,6 @@ fn make_page(words: &mut Vec<u64>) -> Result<(), AllocError>
 {
     if words.is_empty() {
         words.resize(PAGE_WORDS, 0)?;
-    }
-    Ok(())
-}
-
-/// Appends the cells of a page, of which `first` is the least number.
-fn push_cells(cells: &mut Vec<u32>, first: u32, page: &[u64]) -> Result<(), AllocError>
-    requires long { length page.now ≤ 512 }
-    requires room { first + 32768 ≤ 2 ^ 32 }
-    ensures { OnOk result (cells.new.items ≡ cells.old.items ++ map (λ z. first + z) (cells_in page.now)) }
-{
-    for (k, word) in page.iter().enumerate() {
-        push_places(cells, first + 64 * k as u32, *word)?;
-    }
-    Ok(())
-}
-
-/// Appends the places of the bits that are set in a word, counted from `first`.
-fn push_places(places: &mut Vec<u32>, first: u32, word: u64) -> Result<(), AllocError>
-    requires { first + 64 ≤ 2 ^ 32 }
-    ensures { OnOk result (places.new.items ≡ places.old.items ++ map (λ b. first + b) (set_bits word)) }
-{
-    let mut rest = word;
-    while rest != 0 {
-        let bit = rest.trailing_zeros();
-        rest &= !(1u64 << bit);
-        places.push(first + bit)?;
     }
     Ok(())
 }

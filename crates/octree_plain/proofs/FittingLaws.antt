@@ -274,7 +274,3 @@ is_fitted ps cube high h =
     ap (λ (o : Option Span). option_map_or (λ (span : Span). Err span) o (Ok (cube_round ps (unwrap_or (fitted_bits ps) 31)))) h.narrow
     ∙ ap (λ (o : Option ℕ). Ok (cube_round ps (unwrap_or o 31))) (bits_found ps cube high h)
     ∙ ap (λ (b : ℕ). Ok (cube_round ps b)) same ∙ ap Ok (rounded ps cube h)
-
--- an axis that is too wide refuses the cube
-pub too_wide : (ps : List PointValue) (span : Span) → wide_axis ps ≡ Some span → fitted_cube ps ≡ Err span
-too_wide ps span wide = ap (λ (o : Option Span). option_map_or (λ (s : Span). Err s) o (Ok (cube_round ps (unwrap_or (fitted_bits ps) 31)))) wide

@@ -2,6 +2,7 @@
 use Rattle.std.proofs.Common.{◌≡◌, ℕ, zero, suc, ◌+◌, ◌^◌, ◌<◌, ◌≤◌, ◌≢◌, inl, inr, Bool, true, false, ◌||◌, List, [], ◌∷◌, ◌++◌, map, take, length, get_or, set, ap, refl, sym, arith, ◌∙◌, nat_eq, cond, Some, min, not, ◌%◌}
 use Rattle.std.specs.List.{filter}
 use Rattle.std.specs.Prelude.{unwrap_or, slice_index}
+use Rattle.std.proofs.Math.Bool.{or_assoc, or-false, or-true}
 use Rattle.std.proofs.lemmas.Bool.{cases_eq, eq-eqb, ne_eqb}
 use Rattle.std.proofs.lemmas.List.{map-append, append-nil, get_or-set_same, get_or-set_other}
 use Rattle.std.proofs.lemmas.List.Elements.{filter-append}
@@ -46,16 +47,8 @@ no_keys c (q ∷ qs) z h =
     right_false false b e = e
 
 has_push : (z n : ℕ) (ks : List ℕ) → has z (ks ++ n ∷ []) ≡ (has z ks || nat_eq z n)
-has_push z n [] = or_false (nat_eq z n)
-  where
-    or_false : (x : Bool) → (x || false) ≡ x
-    or_false true = refl
-    or_false false = refl
-has_push z n (k ∷ ks) = ap (λ b. nat_eq z k || b) (has_push z n ks) ∙ or_assoc (nat_eq z k) (has z ks) (nat_eq z n)
-  where
-    or_assoc : (x y w : Bool) → (x || (y || w)) ≡ ((x || y) || w)
-    or_assoc true y w = refl
-    or_assoc false y w = refl
+has_push z n [] = or-false (nat_eq z n)
+has_push z n (k ∷ ks) = ap (λ b. nat_eq z k || b) (has_push z n ks) ∙ sym (or_assoc (nat_eq z k) (has z ks) (nat_eq z n))
 
 -- a cell of the points so far, or that of the new one
 old_cell : (c : CubeValue) (qs : List PointValue) (p : PointValue) (z : ℕ) → cell c p ≢ z → has z (map (cell c) (qs ++ p ∷ [])) ≡ true → has z (map (cell c) qs) ≡ true
@@ -147,11 +140,7 @@ found_more c ps i z p cells cells' before more is next =
 pub has_at : (ks : List ℕ) (i d : ℕ) → i < length ks → has (get_or ks i d) ks ≡ true
 has_at [] i d l = absurd (omega arith)
 has_at (k ∷ ks) zero d l = ap (λ b. b || has k ks) (eq-eqb k k refl)
-has_at (k ∷ ks) (suc i) d l = ap (λ b. nat_eq (get_or ks i d) k || b) (has_at ks i d (omega arith)) ∙ or_true (nat_eq (get_or ks i d) k)
-  where
-    or_true : (b : Bool) → (b || true) ≡ true
-    or_true true = refl
-    or_true false = refl
+has_at (k ∷ ks) (suc i) d l = ap (λ b. nat_eq (get_or ks i d) k || b) (has_at ks i d (omega arith)) ∙ or-true (nat_eq (get_or ks i d) k)
 
 -- a cell of the list has its least key in the table
 least_at : (c : CubeValue) (ps : List PointValue) (cells table : List ℕ) (z : ℕ) → cells ≡ ascending (map (cell c) ps) → HasLeastKeys c ps table → has z cells ≡ true → IsLeastKey c ps z (slice_index table z)
@@ -165,11 +154,7 @@ map_same_in : {X : Type 0} (f g : ℕ → X) (ks : List ℕ) → ((z : ℕ) → 
 map_same_in f g [] same = refl
 map_same_in f g (k ∷ ks) same =
     ap (λ x. x ∷ map f ks) (same k (ap (λ b. b || has k ks) (eq-eqb k k refl)))
-    ∙ ap (λ xs. g k ∷ xs) (map_same_in f g ks (λ z h. same z (ap (λ b. nat_eq z k || b) h ∙ or_true (nat_eq z k))))
-  where
-    or_true : (b : Bool) → (b || true) ≡ true
-    or_true true = refl
-    or_true false = refl
+    ∙ ap (λ xs. g k ∷ xs) (map_same_in f g ks (λ z h. same z (ap (λ b. nat_eq z k || b) h ∙ or-true (nat_eq z k))))
 
 -- the cells with the colours of their least keys are the voxels
 pub coloured_cells : (c : CubeValue) (ps : List PointValue) (cells table : List ℕ) → cells ≡ ascending (map (cell c) ps) → HasLeastKeys c ps table

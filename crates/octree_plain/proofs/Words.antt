@@ -77,13 +77,13 @@ fewer_bits word b some fits is =
 
 -- ---- the cells of words
 -- the numbers below a, and then those from a on
-up_to-add : (a b : ℕ) → up_to (a + b) ≡ up_to a ++ map (λ i. a + i) (up_to b)
+pub up_to-add : (a b : ℕ) → up_to (a + b) ≡ up_to a ++ map (λ i. a + i) (up_to b)
 up_to-add a zero = let e : a + 0 ≡ a = omega arith in ap up_to e ∙ sym (append-nil (up_to a))
 up_to-add a (suc b) =
     rw (add-suc a b) (ap (λ (ks : List ℕ). ks ++ (a + b) ∷ []) (up_to-add a b) ∙ append_assoc (up_to a) (map (λ i. a + i) (up_to b)) ((a + b) ∷ [])
     ∙ ap (λ (ks : List ℕ). up_to a ++ ks) (sym (map-append (λ i. a + i) (up_to b) (b ∷ []))))
 
-filter-map : (t : ℕ → Bool) (f : ℕ → ℕ) (ks : List ℕ) → filter t (map f ks) ≡ map f (filter (λ k. t (f k)) ks)
+pub filter-map : (t : ℕ → Bool) (f : ℕ → ℕ) (ks : List ℕ) → filter t (map f ks) ≡ map f (filter (λ k. t (f k)) ks)
 filter-map t f [] = refl
 filter-map t f (k ∷ ks) = elim (t (f k)) as (λ b. cond b (f k ∷ filter t (map f ks)) (filter t (map f ks)) ≡ map f (cond b (k ∷ filter (λ k. t (f k)) ks) (filter (λ k. t (f k)) ks))) [
   | true ↦ ap (λ xs. f k ∷ xs) (filter-map t f ks)
@@ -107,16 +107,35 @@ next_in words k n word few at =
     ap (λ q. nat_eq (bit_at (get_or words q 0) ((64 * k + i) % 64)) 1) place ∙ ap (λ r. nat_eq (bit_at (get_or words k 0) r) 1) bit ∙ ap (λ w. is_set w i) (sym at))))
 
 -- one word more
-pub next_word : (words : List ℕ) (k word : ℕ) → word ≡ get_or words k 0 → cells_of_first words (k + 1) ≡ cells_of_first words k ++ map (λ b. 64 * k + b) (set_bits word)
+next_word : (words : List ℕ) (k word : ℕ) → word ≡ get_or words k 0 → cells_of_first words (k + 1) ≡ cells_of_first words k ++ map (λ b. 64 * k + b) (set_bits word)
 unfolding set_bits
 next_word words k word at =
     let e : 64 * (k + 1) ≡ 64 * k + 64 = omega arith in
     ap (λ n. filter (is_marked words) (up_to n)) e ∙ next_in words k 64 word (omega arith) at
 
+shifted : (a b : ℕ) (ks : List ℕ) → map (λ z. a + z) (map (λ z. b + z) ks) ≡ map (λ z. (a + b) + z) ks
+shifted a b [] = refl
+shifted a b (k ∷ ks) = let e : a + (b + k) ≡ (a + b) + k = omega arith in ap (λ n. n ∷ map (λ z. a + z) (map (λ z. b + z) ks)) e ∙ ap (λ (xs : List ℕ). ((a + b) + k) ∷ xs) (shifted a b ks)
+
+-- one word more, of cells counted from a first one
+pub next_places : (words : List ℕ) (first k word : ℕ) (old cells cells' : List ℕ) → word ≡ get_or words k 0 → cells ≡ old ++ map (λ z. first + z) (cells_of_first words k)
+    → cells' ≡ cells ++ map (λ b. (first + 64 * k) + b) (set_bits word) → cells' ≡ old ++ map (λ z. first + z) (cells_of_first words (k + 1))
+next_places words first k word old cells cells' at before pushed =
+    pushed ∙ ap (λ (ks : List ℕ). ks ++ map (λ b. (first + 64 * k) + b) (set_bits word)) before
+    ∙ append_assoc old (map (λ z. first + z) (cells_of_first words k)) (map (λ b. (first + 64 * k) + b) (set_bits word))
+    ∙ ap (λ (ks : List ℕ). old ++ (map (λ z. first + z) (cells_of_first words k) ++ ks)) (sym (shifted first (64 * k) (set_bits word)))
+    ∙ ap (λ (ks : List ℕ). old ++ ks) (sym (map-append (λ z. first + z) (cells_of_first words k) (map (λ b. 64 * k + b) (set_bits word))))
+    ∙ ap (λ (ks : List ℕ). old ++ map (λ z. first + z) ks) (sym (next_word words k word at))
+
 -- all words
 pub all_words : (words : List ℕ) (k : ℕ) → k ≡ length words → cells_of_first words k ≡ marked_cells words
 unfolding marked_cells
 all_words words k e = ap (cells_of_first words) e
+
+-- counted from 0 they are themselves
+pub from_zero : (ks : List ℕ) → map (λ z. 0 + z) ks ≡ ks
+from_zero [] = refl
+from_zero (k ∷ ks) = let e : 0 + k ≡ k = omega arith in ap (λ n. n ∷ map (λ z. 0 + z) ks) e ∙ ap (λ (xs : List ℕ). k ∷ xs) (from_zero ks)
 
 -- without a bit there is no cell
 pub no_marks : (words : List ℕ) → ((k : ℕ) → k < length words → get_or words k 0 ≡ 0) → marked_cells words ≡ []

@@ -1,4 +1,4 @@
-ghost use Rattle.std.specs.Prelude.{◌≡◌, ◌+◌, ◌<◌, ◌≤◌, ◌^◌, [], ◌++◌, map, not, length, slice_index, EachIndex, IfOk, OnOk};
+ghost use Rattle.std.specs.Prelude.{◌≡◌, ◌+◌, ◌*◌, ◌<◌, ◌≤◌, ◌^◌, [], ◌++◌, map, not, length, slice_index, EachIndex, IfOk, OnOk};
 ghost use Rattle.octree_model.specs.Numbers.{has, with_number};
 ghost use Rattle.octree_plain.specs.CellSets.{marked_cells, set_bits};
 
@@ -53,22 +53,11 @@ impl CellSet {
         ensures cells { IfOk result (λ cells. cells.items ≡ self.old) }
         ensures emptied { OnOk result (self.new ≡ []) }
     {
-        let cells = cells_of(alloc, &self.words)?;
+        let mut cells = Vec::new(alloc);
+        push_marked_cells(&mut cells, 0, &self.words)?;
         clear(&mut self.words);
         Ok(cells)
     }
-}
-
-/// The cells whose bits are set in the words, ascending.
-fn cells_of(alloc: Global, words: &[u64]) -> Result<Vec<u32>, AllocError>
-    requires { length words.now ≡ 32768 }
-    ensures { IfOk result (λ cells. cells.items ≡ marked_cells words.now) }
-{
-    let mut cells = Vec::new(alloc);
-    for (k, word) in words.iter().enumerate() {
-        push_set_bits(&mut cells, 64 * k as u32, *word)?;
-    }
-    Ok(cells)
 }
 
 fn clear(words: &mut [u64])
@@ -79,7 +68,18 @@ fn clear(words: &mut [u64])
     }
 }
 
-/// Appends the places of the bits that are set, counted from `first`.
+/// Appends the cells whose bits are set in the words, ascending, counted from `first`.
+pub fn push_marked_cells(cells: &mut Vec<u32>, first: u32, words: &[u64]) -> Result<(), AllocError>
+    requires { first + 64 * length words.now ≤ 2 ^ 32 }
+    ensures { OnOk result (cells.new.items ≡ cells.old.items ++ map (λ z. first + z) (marked_cells words.now)) }
+{
+    for (k, word) in words.iter().enumerate() {
+        push_set_bits(cells, first + 64 * k as u32, *word)?;
+    }
+    Ok(())
+}
+
+/// Appends the places of the bits that are set in a word, ascending, counted from `first`.
 fn push_set_bits(places: &mut Vec<u32>, first: u32, word: u64) -> Result<(), AllocError>
     requires { first + 64 ≤ 2 ^ 32 }
     ensures { OnOk result (places.new.items ≡ places.old.items ++ map (λ b. first + b) (set_bits word)) }

@@ -1,4 +1,4 @@
-ghost use Rattle.std.specs.Prelude.{◌≡◌, ◌<◌, ◌≤◌, IsTrue, IfOk, OnOk, All, map, vec_items, replicate, []};
+ghost use Rattle.std.specs.Prelude.{◌≡◌, ◌<◌, ◌≤◌, IsTrue, IfOk, OnOk, All, length, map, vec_items, replicate, []};
 ghost use Rattle.cube_math.specs.Cubes.{contains, child};
 ghost use Rattle.octree_model.specs.Numbers.{up_to};
 ghost use Rattle.octree_model.specs.Octree.{octree, inside};
@@ -76,16 +76,15 @@ pub fn spread(alloc: Global, cube: &Cube, points: &[Point]) -> Result<Vec<Vec<Po
     Ok(lists)
 }
 
-/// How many points lie in each octant. The counts only tell how much room to make, so that no list
-/// grows point by point.
+/// How many points lie in each octant: so much room is made, and no list grows point by point.
 fn count_octants(cube: &Cube, points: &[Point]) -> [usize; 8]
     requires contained { All (λ p. IsTrue (contains cube.now p)) points.now }
     requires splits { 7 < cube.now.bits }
+    ensures { result ≡ map (λ g. length (inside (child cube.now g) points.now)) (up_to 8) }
 {
     let mut counts = [0usize; 8];
     for p in points {
-        let octant = usize::from(cube.octant(p));
-        counts[octant] = counts[octant].wrapping_add(1);
+        counts[usize::from(cube.octant(p))] += 1;
     }
     counts
 }

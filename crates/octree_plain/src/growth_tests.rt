@@ -15,7 +15,7 @@ fn white(x: i32) -> Point {
 }
 
 /// Whether the cube contains all the points.
-fn contains_all(cube: &Cube, points: &[Point]) -> bool
+pub(crate) fn has_all(cube: &Cube, points: &[Point]) -> bool
     ensures { IsTrue result → All (λ p. IsTrue (contains cube.now p)) points.now }
 {
     points.iter().all(|p| cube.contains(p))
@@ -66,7 +66,7 @@ fn assert_one_split(rt: &impl Abort, tree: &Tree) -> Result<(), Fail> {
 fn one_point_above_the_limit_splits_the_root(rt: HostRuntime) -> Result<(), Fail> {
     let cube = Cube::new(0, 0, 0, 8).ok_or("fits")?;
     let points = [white(0), white(1), white(200)];
-    assert!(rt; contains_all(&cube, &points));
+    assert!(rt; has_all(&cube, &points));
     assert_one_split(&rt, &build(rt.alloc(), &points, cube, 2)?)?;
     let points = points.to_vec(rt.alloc())?;
     assert_one_split(&rt, &build_from(rt.alloc(), points, cube, 2)?)
@@ -79,7 +79,7 @@ fn count_at_the_limit_and_a_cube_of_7_bits_stay_leaves(rt: HostRuntime) -> Resul
         let cube = Cube::new(0, 0, 0, bits).ok_or("fits")?;
         assert!(rt; n <= 3 && leaf >= 1);
         let some = &points[..n];
-        assert!(rt; contains_all(&cube, some));
+        assert!(rt; has_all(&cube, some));
         let tree = build(rt.alloc(), some, cube, leaf)?;
         assert!(rt; is_leaf(&tree, some), "{n} points");
     }
@@ -90,7 +90,7 @@ fn count_at_the_limit_and_a_cube_of_7_bits_stay_leaves(rt: HostRuntime) -> Resul
 fn equal_points_are_split_down_to_7_bits(rt: HostRuntime) -> Result<(), Fail> {
     let cube = Cube::new(0, 0, 0, 10).ok_or("fits")?;
     let points = [white(0); 5];
-    assert!(rt; contains_all(&cube, &points));
+    assert!(rt; has_all(&cube, &points));
     let tree = build(rt.alloc(), &points, cube, 2)?;
     let mut node = &tree;
     for level in 0..3 {
@@ -123,7 +123,7 @@ fn voxel_has_the_nearest_colour_and_at_a_tie_the_lesser(rt: HostRuntime) -> Resu
         ([red, white(0)], 0xff0000),
         ([green, blue], 0x0000ff),
     ] {
-        assert!(rt; contains_all(&cube, &points));
+        assert!(rt; has_all(&cube, &points));
         let tree = build(rt.alloc(), &points, cube, 1)?;
         let root = inner(&tree).ok_or("a leaf")?;
         let voxels = [Voxel { cell: 0, rgb }];

@@ -17,6 +17,7 @@ mod outlines;
 mod sampling;
 
 pub use bounds::bounds_text;
+pub use cell_set::push_marked_cells;
 pub use count::node_count;
 pub use fitting::{Span, fit_cube};
 pub use growth::{build, build_from, spread};

@@ -1,6 +1,7 @@
 ghost use Rattle.std.specs.Prelude.{◌<◌, ◌^◌, All, IsTrue, length};
 ghost use Rattle.cube_math.specs.Cubes.{contains};
 
+use crate::growth_tests::has_all;
 use crate::{build, fit_cube, nodes_text};
 use cube_math::{Cube, Point};
 use std::alloc::{AllocError, Global};
@@ -30,12 +31,6 @@ fn fitted_text(alloc: Global, points: &[Point], voxels: bool) -> Result<Vec<u8>,
 {
     let cube = fit_cube(points)?;
     Ok(text(alloc, points, cube, voxels)?)
-}
-
-fn has_all(cube: &Cube, points: &[Point]) -> bool
-    ensures { IsTrue result → All (λ p. IsTrue (contains cube.now p)) points.now }
-{
-    points.iter().all(|p| cube.contains(p))
 }
 
 #[test]

@@ -9,7 +9,6 @@ use Rattle.octree_plain.proofs.Children.{next_child, no_child, one_tree, NextChi
 use Rattle.std.proofs.lemmas.List.{length-map}
 use Rattle.octree_model.specs.declared.tree.Tree.{Inner}
 use Rattle.octree_plain.proofs.growth.+grow.Goals as goal
-use Rattle.octree_plain.proofs.growth.+grow.Goals.{then-len-leaf-via-then-len-leaf, then-len-leaf-via-else-len-leaf+then-cube-eq7}
 
 pub returns-then-len-leaf : goal.returns-then-len-leaf
 returns-then-len-leaf t c =

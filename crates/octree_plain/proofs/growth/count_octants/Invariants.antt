@@ -1,0 +1,8 @@
+use Rattle.std.proofs.Common.{◌≡◌, length, map, take}
+use Rattle.cube_math.specs.Cubes.{child}
+use Rattle.octree_model.specs.Numbers.{up_to}
+use Rattle.octree_model.specs.Octree.{inside}
+use Rattle.octree_plain.proofs.growth.count_octants.Given as goal
+
+abbrev pub invariant-loop-p : goal.invariant-loop-p
+invariant-loop-p l = l.counts ≡ map (λ g. length (inside (child l.cube g) (take l.p-index l.points))) (up_to 8)

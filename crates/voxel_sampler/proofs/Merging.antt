@@ -2,7 +2,7 @@
 use Rattle.std.proofs.Common.{◌≡◌, ℕ, zero, suc, ◌+◌, ◌^◌, ◌<◌, ◌≤◌, ◌≢◌, inl, inr, Bool, true, false, List, [], ◌∷◌, ◌++◌, map, take, drop, length, get_or, ap, refl, sym, arith, ◌∙◌, nat_lt, cond, Option, Some, None, min, subst, append_assoc, ◌-◌}
 use Rattle.std.specs.List.{filter}
 use Rattle.std.proofs.lemmas.Bool.{cases_eq, ltb-true, ltb-false}
-use Rattle.std.proofs.lemmas.List.{map-append, append-nil, take_more, take_all, take-map, take_rest, get_or-drop, length-drop, get_or-map, length-map}
+use Rattle.std.proofs.lemmas.List.{map-append, append-nil, take_more, take-map, take_rest, get_or-drop, length-drop, get_or-map, length-map}
 use Rattle.std.proofs.lemmas.List.Elements.{filter_more}
 use Rattle.octree_model.specs.Voxels.{VoxelValue}
 use Rattle.occupancy_grid.proofs.NumberSets.{AllUnder}
@@ -190,14 +190,6 @@ one_replaced best lowest i k o n nears run rising rising' l is small l' is' smal
           let next : n.cell < get_or (cells_of lowest) (k + 1) 0 = later_over lowest k n rising' more is' in
           with_next (get_or (cells_of lowest) (k + 1) 0) best i o l is (under_higher o.cell (get_or (cells_of lowest) (k + 1) 0) (cells_of (take i best)) (omega arith) olds) (omega arith);
     }
-
--- all entries
-pub all_merged : (best lowest : List NearValue) (i k : ℕ) (nears : List NearValue) (run : List VoxelValue) → IsMerged best lowest i k nears run → length best ≤ i → length lowest ≤ k
-    → (nears ≡ least_nears (best ++ lowest)) × (run ≡ map voxel_of (filter (is_change best) lowest))
-all_merged best lowest i k nears run merged l l' = (
-  merged.nears_so_far ∙ ap (λ (xs : List NearValue). least_nears (xs ++ take k lowest)) (take_all i best l) ∙ ap (λ (xs : List NearValue). least_nears (best ++ xs)) (take_all k lowest l'),
-  merged.run_so_far ∙ ap (λ (xs : List NearValue). map voxel_of (filter (is_change best) xs)) (take_all k lowest l'),
-)
 
 -- ---- the same at places that are equal
 pub at_old : (best lowest : List NearValue) (i j k : ℕ) (nears : List NearValue) (run : List VoxelValue) → i ≡ j → IsMerged best lowest i k nears run → IsMerged best lowest j k nears run

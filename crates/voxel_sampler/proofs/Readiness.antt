@@ -1,6 +1,7 @@
 -- What is ready to be merged into a grid.
 use Rattle.std.proofs.Common.{◌≡◌, ℕ, ◌+◌, ◌<◌, inl, inr, Bool, true, false, ◌||◌, List, [], ◌∷◌, ◌++◌, map, take, length, get_or, zero, suc, ap, refl, sym, arith, ◌∙◌, nat_eq, cond, None, append_assoc}
 use Rattle.std.specs.List.{filter}
+use Rattle.std.proofs.Math.Bool.{or-true}
 use Rattle.std.proofs.lemmas.Bool.{cases_eq, eq-eqb, ne_eqb}
 use Rattle.std.proofs.lemmas.List.{map-append, map_more}
 use Rattle.cube_math.specs.Points.{PointValue}
@@ -10,7 +11,7 @@ use Rattle.octree_model.specs.Voxels.{VoxelValue}
 use Rattle.octree_model.proofs.AscendingLaws.{has-ascending, ascending_push}
 use Rattle.occupancy_grid.specs.Grids.{GridValue, AddsSomePages}
 use Rattle.occupancy_grid.specs.Pages.{page_of}
-use Rattle.occupancy_grid.proofs.NumberSets.{same_numbers, has-append, has_left, has_right}
+use Rattle.occupancy_grid.proofs.NumberSets.{or_more, same_numbers, has-append, has_left, has_right}
 use Rattle.voxel_sampler.specs.Nears.{NearValue, near_key, near_of, cells_of, least_nears, voxel_of}
 use Rattle.voxel_sampler.specs.Order.{IsAscending}
 use Rattle.voxel_sampler.specs.Ready.{ReadyValue, IsReadyFor}
@@ -25,16 +26,12 @@ same_tests false false f g = refl
 same_tests true false f g = sym (f refl)
 same_tests false true f g = g refl
 
-or_true : (b : Bool) → (b || true) ≡ true
-or_true true = refl
-or_true false = refl
-
 -- ---- numbers of numbers
 has_map : (f : ℕ → ℕ) (z : ℕ) (ks : List ℕ) → has z ks ≡ true → has (f z) (map f ks) ≡ true
 has_map f z [] h = h
 has_map f z (k ∷ ks) h = elim (cases_eq z k) [
   | inl same ↦ ap (λ b. b || has (f z) (map f ks)) (eq-eqb _ _ (ap f same))
-  | inr other ↦ ap (λ b. nat_eq (f z) (f k) || b) (has_map f z ks (sym (ap (λ b. b || has z ks) (ne_eqb _ _ other)) ∙ h)) ∙ or_true (nat_eq (f z) (f k))
+  | inr other ↦ ap (λ b. nat_eq (f z) (f k) || b) (has_map f z ks (sym (ap (λ b. b || has z ks) (ne_eqb _ _ other)) ∙ h)) ∙ or-true (nat_eq (f z) (f k))
 ]
 
 has_map_some : (f : ℕ → ℕ) (p : ℕ) (ks : List ℕ) → has p (map f ks) ≡ true → (z : ℕ) × (has z ks ≡ true) × (f z ≡ p)
@@ -46,7 +43,7 @@ has_map_some f p (k ∷ ks) h = elim (cases_eq p (f k)) [
   | inl same ↦ (k, ap (λ b. b || has k ks) (eq-eqb k k refl), sym same)
   | inr other ↦
       let rest : (z : ℕ) × (has z ks ≡ true) × (f z ≡ p) = has_map_some f p ks (sym (ap (λ b. b || has p (map f ks)) (ne_eqb _ _ other)) ∙ h) in
-      (rest.0, ap (λ b. nat_eq rest.0 k || b) rest.1 ∙ or_true (nat_eq rest.0 k), rest.2)
+      (rest.0, ap (λ b. nat_eq rest.0 k || b) rest.1 ∙ or-true (nat_eq rest.0 k), rest.2)
 ]
 
 -- the pages of cells do not depend on their order
@@ -86,12 +83,8 @@ kept_cell : (p : NearValue → Bool) (z : ℕ) (ns : List NearValue) → has z (
 kept_cell p z [] h = h
 kept_cell p z (n ∷ ns) h = elim (p n) as (λ b. has z (cells_of (cond b (n ∷ filter p ns) (filter p ns))) ≡ true → has z (cells_of (n ∷ ns)) ≡ true) [
   | true ↦ λ e. or_more (nat_eq z n.cell) (has z (cells_of (filter p ns))) (has z (cells_of ns)) (kept_cell p z ns) e
-  | false ↦ λ e. ap (λ b. nat_eq z n.cell || b) (kept_cell p z ns e) ∙ or_true (nat_eq z n.cell)
+  | false ↦ λ e. ap (λ b. nat_eq z n.cell || b) (kept_cell p z ns e) ∙ or-true (nat_eq z n.cell)
 ] h
-  where
-    or_more : (a b c : Bool) → (b ≡ true → c ≡ true) → (a || b) ≡ true → (a || c) ≡ true
-    or_more true b c more e = refl
-    or_more false b c more e = more e
 
 -- an entry of a cell that is new is a change
 new_cells : (best : List NearValue) (z : ℕ) (ns : List NearValue) → key_in best z ≡ None → has z (cells_of (filter (is_change best) ns)) ≡ has z (cells_of ns)
@@ -155,7 +148,7 @@ page_of_run grid best ready i v ready_for l is = ready_for.pages v.cell (has_rea
     has_read : (vs : List VoxelValue) (i : ℕ) (v : VoxelValue) → i < length vs → v ≡ get_or vs i v → has v.cell (voxel_cells vs) ≡ true
     has_read [] i v l is = absurd (omega arith)
     has_read (w ∷ ws) zero v l is = ap (λ b. b || has v.cell (voxel_cells ws)) (eq-eqb _ _ (ap (λ (x : VoxelValue). x.cell) is))
-    has_read (w ∷ ws) (suc i) v l is = ap (λ b. nat_eq v.cell w.cell || b) (has_read ws i v (omega arith) is) ∙ or_true (nat_eq v.cell w.cell)
+    has_read (w ∷ ws) (suc i) v l is = ap (λ b. nat_eq v.cell w.cell || b) (has_read ws i v (omega arith) is) ∙ or-true (nat_eq v.cell w.cell)
 
 -- the cells of the least keys of points
 pub cells_are : (c : CubeValue) (ps : List PointValue) (lowest lent : List NearValue) (zs zs' : List ℕ) → lowest ≡ least_nears (map (near_of c) ps) → lent ≡ lowest → zs ≡ cells_of lent → zs' ≡ zs → zs' ≡ ascending (map (cell c) ps)

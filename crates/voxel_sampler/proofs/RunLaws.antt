@@ -16,7 +16,7 @@ use Rattle.voxel_sampler.specs.Laws.{nears_after, runs_of, all_voxels}
 use Rattle.voxel_sampler.specs.Nears.{NearValue, near_at, near_of, voxel_of, cells_of, least_nears, nears, nears_with}
 use Rattle.voxel_sampler.specs.Runs.{is_lower, falls, run_of, voxel_cells, last_or, last_colour, last_entries}
 use Rattle.voxel_sampler.specs.Updates.{is_change}
-use Rattle.voxel_sampler.proofs.Keys.{both, both-none, key_in, key_in-append, key_in-least_nears, cells_of-least_nears, key_back, has_key, map_same, keys_of_points, cells_of_points, nears_of_points, merged_nears, merged_right}
+use Rattle.voxel_sampler.proofs.Keys.{both, both-none, key_in, key_in-append, some_again, key_in-least_nears, cells_of-least_nears, key_back, has_key, map_same, keys_of_points, cells_of_points, nears_of_points, merged_nears, merged_right}
 use Rattle.voxel_sampler.proofs.Rising.{Rising, rising-ascending, over_not_has}
 
 -- ---- the last number of a list, where it has one
@@ -237,11 +237,7 @@ last_of_entries vs z =
     mapped_last (last_colour vs) (ascending (voxel_cells vs)) z (rising-ascending (voxel_cells vs))
     ∙ ap (λ b. cond b (Some (last_colour vs z)) None) (has-ascending z (voxel_cells vs) ∙ has_last vs z)
     ∙ ap (λ n. cond (is_some (last_in vs z)) (Some n) None) (last_is (map (λ (v : VoxelValue). v.rgb) (filter (λ v. nat_eq v.cell z) vs)))
-    ∙ back (last_in vs z)
-  where
-    back : (o : Option ℕ) → cond (is_some o) (Some (unwrap_or o 0)) None ≡ o
-    back None = refl
-    back (Some n) = refl
+    ∙ some_again (last_in vs z)
 
 last_of_voxels : (c : CubeValue) (ps : List PointValue) (z : ℕ) → last_in (voxels c ps) z ≡ colour_of (least (cell_keys c ps z))
 unfolding voxels

@@ -13,7 +13,7 @@ use Rattle.leaf_counts.specs.Nodes.{NodeValue, NodesAt, node_at, cube_at}
 use Rattle.leaf_counts.specs.Plans.{IsPublished, planned}
 use Rattle.leaf_counts.specs.Skeletons.{SkeletonValue, skeleton_of}
 use Rattle.leaf_counts.proofs.CountLaws as counts
-use Rattle.leaf_counts.proofs.CountLaws.{counts_of, counted_is}
+use Rattle.leaf_counts.proofs.CountLaws.{counts_of}
 use Rattle.leaf_counts.proofs.NodeLaws.{node_at-Leaf, node_at-Inner}
 use Rattle.leaf_counts.proofs.OverfullLaws.{child_counts, eight_children}
 use Rattle.leaf_counts.proofs.WayLaws.{node_below, no_node_below, none_below_leaf}

@@ -3,13 +3,13 @@ use Rattle.std.proofs.Common.{◌≡◌, ℕ, ◌+◌, ◌<◌, ◌≤◌, List,
 use Rattle.std.proofs.lemmas.Bool.{cases_lt}
 use Rattle.std.proofs.lemmas.List.{drop_more, drop_all, append-nil, get_or_default}
 use Rattle.std.proofs.lemmas.Option.{slice_get_read}
-use Rattle.leaf_counts.specs.declared.counts.Counts.{Counts, Leaf, Inner, out-Counts}
+use Rattle.leaf_counts.specs.declared.counts.Counts.{Counts, Inner, out-Counts}
 use Rattle.leaf_counts.specs.declared.growth.Growth.{Growth}
 use Rattle.leaf_counts.specs.declared.growth.Growth.TheOpen.{Growth-F}
 use Rattle.leaf_counts.specs.declared.growth.Growth.TheFolds.{fold-roll-Growth}
 use Rattle.leaf_counts.specs.declared.growth.Growth.TheVariants.{Same, New, Each, rolls-Same, rolls-New, rolls-Each}
 use Rattle.leaf_counts.specs.Growths.{grown, grown_each, grown_inner, layer_grown}
-use Rattle.leaf_counts.proofs.NodeLaws.{out-Leaf, out-Inner}
+use Rattle.leaf_counts.proofs.NodeLaws.{out-Inner}
 
 pub grown-Same : (t : Counts) → grown Same t ≡ t
 grown-Same t = ap (λ (g : Growth). grown g t) (sym rolls-Same) ∙ ap (λ (f : Counts → Counts). f t) (fold-roll-Growth (Counts → Counts) layer_grown Growth-F.Same)
@@ -19,9 +19,6 @@ grown-New new t = ap (λ (g : Growth). grown g t) (sym (rolls-New new)) ∙ ap (
 
 grown-Each : (n : ℕ) (gs : List Growth) (t : Counts) → grown (Each n gs) t ≡ grown_inner n (map grown gs) (out-Counts t)
 grown-Each n gs t = ap (λ (g : Growth). grown g t) (sym (rolls-Each n gs)) ∙ ap (λ (f : Counts → Counts). f t) (fold-roll-Growth (Counts → Counts) layer_grown (Growth-F.Each n gs))
-
-pub grown-leaf : (n m : ℕ) (gs : List Growth) → grown (Each n gs) (Leaf m) ≡ Leaf m
-grown-leaf n m gs = grown-Each n gs (Leaf m) ∙ ap (grown_inner n (map grown gs)) (out-Leaf m)
 
 pub grown-inner : (n m : ℕ) (gs : List Growth) (ts : List Counts) → grown (Each n gs) (Inner m ts) ≡ Inner n (grown_each (map grown gs) ts)
 grown-inner n m gs ts = grown-Each n gs (Inner m ts) ∙ ap (grown_inner n (map grown gs)) (out-Inner m ts)

@@ -11,7 +11,6 @@ use Rattle.leaf_counts.specs.Paths.{inner_paths, leaf_paths}
 use Rattle.leaf_counts.proofs.CountLaws.{counts_of, counted_is, counts_same}
 use Rattle.leaf_counts.proofs.SplitLaws.{leaf_of_points, inner_of_points, one_more, so_many, named_more}
 use Rattle.leaf_counts.proofs.splitting.+split.Goals as goal
-use Rattle.leaf_counts.proofs.splitting.+split.Goals.{then-len-leaf-via-then-len-leaf, then-len-leaf-via-else-len-leaf+then-cube-eq7}
 
 pub returns-then-len-leaf-clause-counts : goal.returns-then-len-leaf-clause-counts
 returns-then-len-leaf-clause-counts t c =

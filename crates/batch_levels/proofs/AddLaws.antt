@@ -27,7 +27,7 @@ use Rattle.leaf_counts.proofs.PathLaws.{leaf_paths-Leaf, leaf_paths-Inner}
 use Rattle.leaf_counts.proofs.WayLaws.{node_below}
 use Rattle.batch_levels.specs.declared.level.Level.{Level}
 use Rattle.batch_levels.specs.declared.level.Level.TheVariants.{Leaf}
-use Rattle.batch_levels.specs.Growing.{HasRoom, IsOverLeaf}
+use Rattle.batch_levels.specs.Growing.{IsOverLeaf}
 use Rattle.batch_levels.specs.Levels.{LevelsValue, AreAllOf, level_of, levels_of}
 use Rattle.batch_levels.proofs.LevelLaws as levels
 
@@ -107,14 +107,6 @@ published l ps batch paths spills lent all few is named bags same = record {
   few = omega (arith, total_is l ps all);
   paths = ap (map (λ (spill : Spill). spill.path)) same ∙ named ∙ is;
   bags = subst (λ (ss : List Spill). All (λ spill. IsSameBag spill.points.items (inside (cube_at l.skeleton.cube spill.path) ps)) ss) (sym same) bags;
-}
-
--- the root has room for the batch
-pub root_room : (l : LevelsValue) (ps batch points : List PointValue) (leaf : ℕ) (cube : CubeValue) → AreAllOf l ps → l.total + length batch < 2 ^ 32 → leaf ≡ l.skeleton.leaf → cube ≡ l.skeleton.cube → points ≡ batch → HasRoom leaf cube l.root (length points)
-root_room l ps batch points leaf cube all few limit box same = record {
-  points = ps;
-  is = root_is l ps all ∙ (λ i. level_of (sym limit i) (sym box i) ps);
-  few = omega (arith, total_is l ps all, ap length same);
 }
 
 -- ---- the levels after a batch

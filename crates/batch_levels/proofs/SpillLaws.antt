@@ -11,7 +11,7 @@ use Rattle.octree_model.proofs.NumberLaws.{at_up_to, length-up_to}
 use Rattle.leaf_counts.specs.declared.counts.Counts.{Counts}
 use Rattle.leaf_counts.specs.declared.counts.Counts.TheVariants as counts
 use Rattle.leaf_counts.specs.Nodes.{NodesAt, counted, is_leaf, is_leaf_at, cube_at}
-use Rattle.leaf_counts.proofs.CountLaws.{counts_of, counted_is, counts_same, child_inside, is_inner}
+use Rattle.leaf_counts.proofs.CountLaws.{counts_of, counted_is, child_inside, is_inner}
 use Rattle.leaf_counts.proofs.CountLaws as count_laws
 use Rattle.leaf_counts.proofs.NodeLaws.{node_at-Inner, next_of}
 use Rattle.leaf_counts.proofs.OverfullLaws.{child_counts, eight_children}

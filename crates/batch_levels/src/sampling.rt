@@ -1,4 +1,4 @@
-ghost use Rattle.std.specs.Prelude.{◌≡◌, ◌<◌, ◌++◌, List, [], All, IsTrue, IfOk, OnOk};
+ghost use Rattle.std.specs.Prelude.{◌≡◌, ◌<◌, ◌++◌, List, [], All, IsTrue, OnOk};
 ghost use Rattle.cube_math.specs.Cubes.{contains};
 ghost use Rattle.cube_math.specs.Points.{PointValue};
 ghost use Rattle.voxel_sampler.specs.Nears.{nears};

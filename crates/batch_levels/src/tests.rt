@@ -3,6 +3,7 @@ ghost use Rattle.cube_math.specs.Cubes.{contains};
 
 use crate::{InnerLevel, Level, Levels};
 use cube_math::{Batch, Cube, Path, Point};
+use leaf_counts::PlanRefusal;
 use octree_plain::{InnerNode, Tree, build};
 use std::alloc::{AllocError, Global};
 use std::test::Fail;
@@ -202,5 +203,25 @@ fn batches_give_the_octree_of_all_points(rt: HostRuntime) -> Result<(), Fail> {
     }
     // On the average an octree of the table is split more than once.
     assert!(rt; nodes as usize > 9 * ROWS.len());
+    Ok(())
+}
+
+#[test]
+fn too_many_nodes_are_refused_and_the_batch_stays(rt: HostRuntime) -> Result<(), Fail> {
+    let cube = Cube::new(0, 0, 0, 8).ok_or("fits")?;
+    let points = [Point::new(0, 0, 0, 0, 0, 0), Point::new(200, 0, 0, 0, 0, 0)].to_vec(rt.alloc())?;
+    let Ok(batch) = Batch::new(0, points, &cube, 10) else {
+        return Err("no batch".into());
+    };
+    let refusal = Levels::new(rt.alloc(), cube, 1)?
+        .add(rt.alloc(), &batch, 8)
+        .err();
+    assert_eq!(rt; refusal, Some(PlanRefusal::NodesFull { need: 9, most: 8 }));
+    // The batch has all its points, and goes in where nine nodes are not too many.
+    let Ok(levels) = Levels::new(rt.alloc(), cube, 1)?.add(rt.alloc(), &batch, 9) else {
+        return Err("refused".into());
+    };
+    assert_eq!(rt; levels.skeleton().nodes(), 9);
+    assert_eq!(rt; levels.total(), 2);
     Ok(())
 }

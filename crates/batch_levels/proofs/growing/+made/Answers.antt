@@ -9,7 +9,6 @@ use Rattle.voxel_sampler.specs.Nears.{nears}
 use Rattle.batch_levels.proofs.LevelLaws.{leaf_of_points, level_same}
 use Rattle.batch_levels.proofs.GrownLaws.{one_more, no_nears, inner_made}
 use Rattle.batch_levels.proofs.growing.+made.Goals as goal
-use Rattle.batch_levels.proofs.growing.+made.Goals.{then-len-leaf-via-then-len-leaf, then-len-leaf-via-else-len-leaf+then-cube-eq7}
 
 pub returns-then-len-leaf : goal.returns-then-len-leaf
 returns-then-len-leaf t c =

@@ -1,5 +1,5 @@
 -- A finite set of numbers that are free, among those below a bound.
-use Rattle.std.specs.Prelude.{ℕ, ◌≤◌, IsTrue, refl}
+use Rattle.std.specs.Prelude.{ℕ, ◌≤◌, IsTrue, List, refl}
 use Rattle.std.specs.List.{range_with_len}
 use Rattle.std.specs.Ordering.{nat_cmp}
 use Rattle.std.specs.Coded.{Coded, code_by, coded×, coded_ℕ}
@@ -38,3 +38,7 @@ without p k = record { size = p.size; free = set.remove p.free k }
 -- a number is free again
 abbrev pub with_free : Numbers → ℕ → Numbers
 with_free p k = record { size = p.size; free = set.insert p.free k }
+
+-- all of these numbers are free again
+abbrev pub with_all_free : Numbers → List ℕ → Numbers
+with_all_free p ks = record { size = p.size; free = set.union p.free (set.from_list ks) }

@@ -1,6 +1,6 @@
-ghost use Rattle.std.specs.Prelude.{◌≡◌, ◌<◌, ◌≤◌, IfOk, MatchOption};
+ghost use Rattle.std.specs.Prelude.{◌≡◌, ℕ, ◌+◌, ◌<◌, ◌≤◌, Some, length, slice_get, IfOk, MatchOption};
 ghost use Rattle.std.specs.FinSet as set;
-ghost use Rattle.chunk_pool.specs.Numbers.{IsFree, IsLeastFree, all_free, with_free, without};
+ghost use Rattle.chunk_pool.specs.Numbers.{IsFree, IsLeastFree, all_free, with_all_free, with_free, without};
 
 use std::alloc::{AllocError, Global};
 use std::cmp::Reverse;
@@ -70,5 +70,18 @@ impl Pool {
         let Ok(()) = self.free.push(Reverse(id)) else {
             unreachable!()
         };
+    }
+
+    /// Makes numbers free again that were taken, each once.
+    pub fn give_all(&mut self, ids: &[u32])
+        requires below { (i k : ℕ) → slice_get ids.now i ≡ Some k → k < self.old.size }
+        requires taken { (i k : ℕ) → slice_get ids.now i ≡ Some k → ¬ (IsFree self.old k) }
+        requires apart { (i j k : ℕ) → slice_get ids.now i ≡ Some k → slice_get ids.now j ≡ Some k → i ≡ j }
+        ensures after { self.new ≡ with_all_free self.old ids.now }
+        ensures count { set.len self.new.free ≡ set.len self.old.free + length ids.now }
+    {
+        for id in ids {
+            self.give(*id);
+        }
     }
 }

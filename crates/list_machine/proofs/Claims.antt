@@ -41,11 +41,11 @@ more_claims x first next slot a few y = record { counted = few; shown = y.shown;
 
   by : (t : Stage) → HoldsAt x first next slot a t → HoldsAt (one_more x) first next slot a t
   by Open z = (standing z.0, z.1)
-  by (Swept p f m) z = (standing z.0, record { marked = z.1.marked; marked_owned = z.1.marked_owned; past = z.1.past; within_claims = let b = z.1.within_claims in omega arith; within_slots = z.1.within_slots })
+  by (Swept p f m) z = (standing z.0, record { marked = z.1.marked; marked_owned = z.1.marked_owned; unmarked = z.1.unmarked; unmarked_owned = z.1.unmarked_owned; past = z.1.past; within_claims = let b = z.1.within_claims in omega arith; within_slots = z.1.within_slots })
   by (Cleared p n) z = z
 
 -- a claim where a place is left keeps what holds of the lists
-pub claim_shape : (w : Words) (b : Book) → Shape w b → (l : ℕ) (a : Leaf) → IsAt b.leaves l a → suc (w.claim l).value ≤ a.granted → Shape (put_claim w l (one_more (w.claim l))) b
+claim_shape : (w : Words) (b : Book) → Shape w b → (l : ℕ) (a : Leaf) → IsAt b.leaves l a → suc (w.claim l).value ≤ a.granted → Shape (put_claim w l (one_more (w.claim l))) b
 claim_shape w b sh l a leaf few = record {
   lists = subst (AreLists (put_claim w l (one_more (w.claim l)))) (set_again b.leaves l a leaf)
       (lists_frame_same w (put_claim w l (one_more (w.claim l))) b.leaves l a a sh.lists leaf (claim_elsewhere w l a (one_more (w.claim l))) (λ y r c p. p) (λ c p. p)

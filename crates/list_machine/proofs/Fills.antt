@@ -74,6 +74,8 @@ module _ (claim : Word) (first : ℕ) (next : ℕ → ℕ) (slot : ℕ → ℕ �
         record {
           marked = λ q d j p' lt' f' m'. stays d j (λ (n : Word). n.high ≡ true) (λ e. absurd (cc)) (z.1.marked q d j p' lt' f' m');
           marked_owned = λ q d j p' lt' m'. stays d j (λ (n : Word). n.high ≡ true) (λ e. absurd (cc)) (z.1.marked_owned q d j p' lt' m');
+          unmarked = λ q d j p' lt' m'. at_slot d j (λ (n : Word). n.high ≡ false) (λ _ _. refl) (z.1.unmarked q d j p' lt' m');
+          unmarked_owned = λ q d j p' lt' m'. at_slot d j (λ (n : Word). n.high ≡ false) (λ _ _. refl) (z.1.unmarked_owned q d j p' lt' m');
           past = λ q d j p' lt' f'. at_slot d j (λ (n : Word). n.value ≡ 0) (λ e e'. let t = (rank claimed_chain q d p' e).1 in let b = before p f m is in absurd (omega arith)) (z.1.past q d j p' lt' f');
           within_claims = z.1.within_claims;
           within_slots = z.1.within_slots;
@@ -112,7 +114,7 @@ pub own_once : (w : Words) (leaves : List Leaf) (l : ℕ) (a : Leaf) → AreList
 own_once w leaves l a s leaf x y r q c p p' = let t = s.once l l a a x y r q c leaf leaf p p' in (t.1, t.2)
 
 -- a filing at a claimed place keeps what holds of the lists
-pub file_shape : (w : Words) (b : Book) → Shape w b → (l r c k x : ℕ) (a : Leaf) → IsAt b.leaves l a → Stands a.stage → IsAt a.claimed r c → k < 256 → w.slot c k ≡ blank → 256 * r + k < (w.claim l).value
+file_shape : (w : Words) (b : Book) → Shape w b → (l r c k x : ℕ) (a : Leaf) → IsAt b.leaves l a → Stands a.stage → IsAt a.claimed r c → k < 256 → w.slot c k ≡ blank → 256 * r + k < (w.claim l).value
     → ((p f m : ℕ) → a.stage ≡ Swept p f m → 256 * r + k < f) → Shape (put_slot w c k (holding x)) b
 file_shape w b sh l r c k x a leaf stands here lt was below before = record {
   lists = subst (AreLists (put_slot w c k (holding x))) (set_again b.leaves l a leaf)

@@ -10,31 +10,31 @@ use Rattle.list_machine.specs.declared.views.Fact.TheVariants.{Item, Link, Close
 use Rattle.list_machine.specs.declared.views.Fact.{Fact}
 use Rattle.list_machine.specs.declared.views.Guest.{Guest}
 use Rattle.list_machine.proofs.Lists.{at_same, at_set_same, at_set_other, at_left}
-use Rattle.list_machine.proofs.Claims
-use Rattle.list_machine.proofs.Fills
-use Rattle.list_machine.proofs.LinkReads
-use Rattle.list_machine.proofs.Links
-use Rattle.list_machine.proofs.Shuts
-use Rattle.list_machine.proofs.Marks
-use Rattle.list_machine.proofs.Clears
-use Rattle.list_machine.proofs.Seats
+use Rattle.list_machine.proofs.Claims.{claims as claims_sound}
+use Rattle.list_machine.proofs.Fills.{files as files_sound, files_late as files_late_sound, places as places_sound}
+use Rattle.list_machine.proofs.LinkReads.{reads as reads_sound}
+use Rattle.list_machine.proofs.Links.{adopts as adopts_sound, links as links_sound}
+use Rattle.list_machine.proofs.Shuts.{shuts_list as shuts_list_sound}
+use Rattle.list_machine.proofs.Marks.{marks as marks_sound}
+use Rattle.list_machine.proofs.Clears.{clearing_ends as clearing_ends_sound, first_clears as first_clears_sound, link_clears as link_clears_sound, slot_clears as slot_clears_sound}
+use Rattle.list_machine.proofs.Seats.{joins as joins_sound, splits as splits_sound}
 
 pub step_sound : (s t : State) → IsSound s → Step s t → IsSound t
-step_sound s t sound (claims j l v at idle has) = Claims.claims s.words s.owner s.guests sound j l v at idle has
-step_sound s t sound (files j l r c k x v at claim lt chunk was) = Fills.files s.words s.owner s.guests sound j l r c k v at claim lt chunk x was
-step_sound s t sound (misses j l r c k v at claim lt chunk ne) = Fills.files_late s.words s.owner s.guests sound j l r c k v at claim lt chunk ne
-step_sound s t sound (reads j l r c from v at out knows found) = LinkReads.reads s.words s.owner s.guests sound j l v at out from r c knows found
-step_sound s t sound (places l r c k x a leaf unshut here lt is_next) = Fills.places s.words s.owner s.guests sound l r c k x a leaf unshut here lt is_next
-step_sound s t sound (adopts l c a leaf unshut free small) = Links.adopts s.words s.owner s.guests sound l c a leaf unshut free small
-step_sound s t sound (links l c from a leaf unshut free small last) = Links.links s.words s.owner s.guests sound l c a leaf unshut free small from last
-step_sound s t sound (shuts l a leaf unshut) = Shuts.shuts_list s.words s.owner s.guests sound l a leaf unshut
-step_sound s t sound (marks l p f m r c k x a leaf shut here lt is_next) = Marks.marks s.words s.owner s.guests sound l p f m r c k a x leaf shut here lt is_next
-step_sound s t sound (first_clears l f m a leaf shut over unreached) = Clears.first_clears s.words s.owner s.guests sound l f m a leaf shut over unreached
-step_sound s t sound (slot_clears l p n r c k a leaf begun here lt is_next) = Clears.slot_clears s.words s.owner s.guests sound l p n a leaf begun r c here k lt is_next
-step_sound s t sound (link_clears l p n r c a leaf begun here is_next) = Clears.link_clears s.words s.owner s.guests sound l p n a leaf begun r c here is_next
-step_sound s t sound (clearing_ends l p n a leaf begun all) = Clears.clearing_ends s.words s.owner s.guests sound l p n a leaf begun all
-step_sound s t sound (splits gs fit) = Seats.splits s.words s.owner s.guests sound gs fit
-step_sound s t sound (joins j v at out) = Seats.joins s.words s.owner s.guests sound j v at out
+step_sound s t sound (claims j l v at idle has) = claims_sound s.words s.owner s.guests sound j l v at idle has
+step_sound s t sound (files j l r c k x v at claim lt chunk was) = files_sound s.words s.owner s.guests sound j l r c k v at claim lt chunk x was
+step_sound s t sound (misses j l r c k v at claim lt chunk ne) = files_late_sound s.words s.owner s.guests sound j l r c k v at claim lt chunk ne
+step_sound s t sound (reads j l r c from v at out knows found) = reads_sound s.words s.owner s.guests sound j l v at out from r c knows found
+step_sound s t sound (places l r c k x a leaf unshut here lt is_next) = places_sound s.words s.owner s.guests sound l r c k x a leaf unshut here lt is_next
+step_sound s t sound (adopts l c a leaf unshut free small) = adopts_sound s.words s.owner s.guests sound l c a leaf unshut free small
+step_sound s t sound (links l c from a leaf unshut free small last) = links_sound s.words s.owner s.guests sound l c a leaf unshut free small from last
+step_sound s t sound (shuts l a leaf unshut) = shuts_list_sound s.words s.owner s.guests sound l a leaf unshut
+step_sound s t sound (marks l p f m r c k x a leaf shut here lt is_next) = marks_sound s.words s.owner s.guests sound l p f m r c k a x leaf shut here lt is_next
+step_sound s t sound (first_clears l f m a leaf shut over unreached) = first_clears_sound s.words s.owner s.guests sound l f m a leaf shut over unreached
+step_sound s t sound (slot_clears l p n r c k a leaf begun here lt is_next) = slot_clears_sound s.words s.owner s.guests sound l p n a leaf begun r c here k lt is_next
+step_sound s t sound (link_clears l p n r c a leaf begun here is_next) = link_clears_sound s.words s.owner s.guests sound l p n a leaf begun r c here is_next
+step_sound s t sound (clearing_ends l p n a leaf begun all) = clearing_ends_sound s.words s.owner s.guests sound l p n a leaf begun all
+step_sound s t sound (splits gs fit) = splits_sound s.words s.owner s.guests sound gs fit
+step_sound s t sound (joins j v at out) = joins_sound s.words s.owner s.guests sound j v at out
 
 -- a guest keeps its facts for as long as it is out
 abbrev pub Keeps : Guest → Guest → Type 0

@@ -19,5 +19,4 @@ pub mod Keeping
 pub mod Knowledge
 pub mod WalkedLinks
 pub mod Openings
-pub mod Shapes
 pub mod Rows

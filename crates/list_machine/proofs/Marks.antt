@@ -71,6 +71,19 @@ module _ (claim : Word) (first : ℕ) (next : ℕ → ℕ) (slot : ℕ → ℕ �
     by owned_chain e never = by_mark owned_chain ((slot d j).high ≡ true) e (λ t. let t0 = t.0 in z.marked_owned q d j at lt'
         (dite (ℕ_discrete (f + (256 * q + j)) m) (λ is. absurd (same_slot owned_chain q d j e at lt' (omega arith) never)) (λ ne. omega arith)))
 
+  -- a place behind the mark does not have the slot of the mark
+  unmarked_behind : (z : IsSwept claim slot a f m) (q d j : ℕ) → IsAt a.claimed q d → j < 256 → suc m ≤ 256 * q + j → (slot' d j).high ≡ false
+  unmarked_behind z q d j at lt' behind = putting_slot slot c k (raised (slot c k)) d j (λ (x : Word). x.high ≡ false)
+      (λ e e'. let t = own claimed_chain y q r c (subst (λ (i : ℕ). IsAt a.claimed q i) e at) here in let same = t.1 in
+      by_mark claimed_chain (true ≡ false) (sym t.0) (λ n. let n0 = n.0 in absurd (omega arith)))
+      (λ _. z.unmarked q d j at lt' (omega arith))
+
+  unmarked_owned_behind : (z : IsSwept claim slot a f m) (q d j : ℕ) → IsAt a.owned q d → j < 256 → suc m ≤ f + (256 * q + j) → (slot' d j).high ≡ false
+  unmarked_owned_behind z q d j at lt' behind = putting_slot slot c k (raised (slot c k)) d j (λ (x : Word). x.high ≡ false)
+      (λ e e'. let t = own owned_chain y q r c (subst (λ (i : ℕ). IsAt a.owned q i) e at) here in let same = t.1 in
+      by_mark owned_chain (true ≡ false) (sym t.0) (λ n. let n0 = n.0 in absurd (omega arith)))
+      (λ _. z.unmarked_owned q d j at lt' (omega arith))
+
   enough : (t : Chain) → IsNextMark a f m t (256 * r + k) → suc m ≤ f + a.used
   enough claimed_chain t = let t0 = t.0 in let t1 = t.1 in omega arith
   enough owned_chain t = let t0 = t.0 in let t1 = t.1 in omega arith
@@ -97,6 +110,8 @@ module _ (claim : Word) (first : ℕ) (next : ℕ → ℕ) (slot : ℕ → ℕ �
       record {
         marked = marked_before z.1;
         marked_owned = marked_owned_before z.1;
+        unmarked = unmarked_behind z.1;
+        unmarked_owned = unmarked_owned_behind z.1;
         past = λ q d j at lt' le. value_on slot c k d j ∙ z.1.past q d j at lt' le;
         within_claims = z.1.within_claims;
         within_slots = enough y is_next;

@@ -1,4 +1,4 @@
--- The rule holds at the start, and of lists alone where no other seat is known.
+-- The rule holds at the start.
 use Rattle.std.proofs.Common.{◌≡◌, ℕ, zero, suc, List, [], length, replicate, get_or, sym, refl, ap, ◌∙◌, subst, arith}
 use Rattle.std.proofs.lemmas.Option.{none-some, same_Some}
 use Rattle.list_machine.specs.Words.{blank}
@@ -26,10 +26,10 @@ zeros_length zero = refl
 zeros_length (suc n) = ap suc (zeros_length n)
 
 -- an owner that knows nothing, of these lists, and no guests
-abbrev pub alone : Book → Owner
+abbrev alone : Book → Owner
 alone b = record { book = b; out = zero_list (suc (length b.order)); facts = [] }
 
-pub alone_sound : (w : Words) (b : Book) → Shape w b → Sound w (alone b) []
+alone_sound : (w : Words) (b : Book) → Shape w b → Sound w (alone b) []
 alone_sound w b shape = record {
   shape = shape;
   known = record {

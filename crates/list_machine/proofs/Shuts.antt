@@ -6,7 +6,7 @@ use mathlib.Core.Logic.{dite}
 use native.Mathlib.Decide.{ℕ_discrete}
 use Rattle.list_machine.specs.Words.{Word, raised}
 use Rattle.list_machine.specs.State.{Words, put_claim}
-use Rattle.list_machine.specs.Facts.{IsAt, total, Holds, Within, place_of, left_in}
+use Rattle.list_machine.specs.Facts.{IsAt, total, claimed_chain, owned_chain, Holds, Within, place_of, left_in}
 use Rattle.list_machine.specs.Rule.{IsList, IsBegun, AreLists, AreOrdered, AreKnown, AreCounted, Sound}
 use Rattle.list_machine.specs.Steps.{with_stage, after_shut}
 use Rattle.list_machine.specs.declared.views.Fact.{Fact}
@@ -58,6 +58,8 @@ module _ (w : Words) (o : Owner) (guests : List Guest) (s : Sound w o guests) (l
       record {
         marked = λ r c k q lt f' m'. absurd (omega arith);
         marked_owned = λ r c k q lt m'. absurd (omega arith);
+        unmarked = λ r c k q lt m'. z.1 c k (claimed_chain, r, q) lt;
+        unmarked_owned = λ r c k q lt m'. z.1 c k (owned_chain, r, q) lt;
         past = λ r c k q lt f'. dite (ℕ_discrete (w.slot c k).value 0) (λ e. e) (λ ne. let b = z.0.filled r c k q lt ne in absurd (omega arith));
         within_claims = omega arith;
         within_slots = omega arith;

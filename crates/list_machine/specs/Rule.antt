@@ -37,6 +37,8 @@ IsUnmarked slot a = (c k : ℕ) → HasChunk a c → k < 256 → (slot c k).high
 pub record IsSwept (claim : Word) (slot : ℕ → ℕ → Word) (a : Leaf) (found marks : ℕ) : Type 0 where
   pub marked : (r c k : ℕ) → IsAt a.claimed r c → k < 256 → 256 * r + k < found → 256 * r + k < marks → (slot c k).high ≡ true
   pub marked_owned : (r c k : ℕ) → IsAt a.owned r c → k < 256 → found + (256 * r + k) < marks → (slot c k).high ≡ true
+  pub unmarked : (r c k : ℕ) → IsAt a.claimed r c → k < 256 → marks ≤ 256 * r + k → (slot c k).high ≡ false
+  pub unmarked_owned : (r c k : ℕ) → IsAt a.owned r c → k < 256 → marks ≤ found + (256 * r + k) → (slot c k).high ≡ false
   -- what was claimed after the shut has no item
   pub past : (r c k : ℕ) → IsAt a.claimed r c → k < 256 → found ≤ 256 * r + k → (slot c k).value ≡ 0
   pub within_claims : found ≤ claim.value

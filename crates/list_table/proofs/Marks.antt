@@ -8,6 +8,7 @@ use Rattle.list_machine.specs.State.{Words, put_slot}
 use Rattle.list_machine.specs.Facts.{IsAt, Chain, claimed_chain, owned_chain, chain_of}
 use Rattle.list_machine.specs.Layouts.{words_of, slot_place}
 use Rattle.list_machine.specs.Machine.{marks}
+use Rattle.list_machine.specs.Rule.{IsSwept}
 use Rattle.list_machine.specs.Steps.{with_leaf, with_fact, with_stage, mark_shows, IsNextMark}
 use Rattle.list_machine.specs.declared.views.Fact.{Fact}
 use Rattle.list_machine.specs.declared.views.Fact.TheVariants.{Item, Empty}
@@ -16,6 +17,7 @@ use Rattle.list_machine.specs.declared.views.Leaf.{Leaf}
 use Rattle.list_machine.proofs.Bits.{decode-or}
 use Rattle.list_machine.proofs.Lists.{at_same, at_more}
 use Rattle.list_machine.proofs.Rows.{slot_set}
+use Rattle.list_machine.proofs.Stages.{as_swept}
 use Rattle.list_table.specs.OwnerMoves.{IsMarkAt, MayMark, after_mark, item_found, marked_notes, one_more_mark}
 use Rattle.list_table.specs.Ledgers.{Knows, shown, ArePlaced, AreMarked, IsNoted, leaf_of, notes_of}
 use Rattle.list_table.specs.declared.views.Notes.{Notes}
@@ -73,6 +75,7 @@ module _ (facts : List Fact) (l : ℕ) (a : Leaf) (p f m c k : ℕ) (w : Word) (
 -- what a mark tells
 pub record MarkTold (g : Ledger) (l c k n : ℕ) (h : Ledger) : Type 0 where
   pub ledger_is : h ≡ after_mark g l c k (decode n)
+  pub unmarked : (decode n).high ≡ false
   pub small : (decode n).value ≤ 4294967296
 
 -- the place of the next mark in its chain
@@ -80,6 +83,12 @@ next_mark : (a : Leaf) (f m c k : ℕ) → IsMarkAt a f m c k → (x : Chain) ×
 next_mark a f m c k at = ⊎_elim
     (λ z. let lt = z.0 in let e = z.2 in (claimed_chain, m / 256, z.1, omega arith, (omega arith, omega arith)))
     (λ z. let le = z.0 in let lt = z.1 in let e = z.3 in (owned_chain, (m - f) / 256, z.2, omega arith, (omega arith, omega arith))) at
+
+-- the slot there is not marked yet
+unmarked_next : (claim : Word) (slot : ℕ → ℕ → Word) (a : Leaf) (f m c k : ℕ) → IsSwept claim slot a f m → IsMarkAt a f m c k → (slot c k).high ≡ false
+unmarked_next claim slot a f m c k swept at = ⊎_elim
+    (λ z. let lt = z.0 in let e = z.2 in swept.unmarked (m / 256) c k z.1 (omega arith) (omega arith))
+    (λ z. let le = z.0 in let e = z.3 in swept.unmarked_owned ((m - f) / 256) c k z.2 (omega arith) (omega arith)) at
 
 pub mark_may : (lists chunks : ℕ) (g : Ledger) (l c k : ℕ) → l < lists → c < chunks → MayMark g l c k → OwnerMay lists chunks g (slot_place lists chunks c k) (λ n. bit_or n 9223372036854775808) (MarkTold g l c k)
 mark_may lists chunks g l c k lt below may words guests s small =
@@ -101,6 +110,7 @@ mark_may lists chunks g l c k lt below may words guests s small =
     let old : IsNoted g.owner.facts l a t (Swept p f m) = subst (IsNoted g.owner.facts l a t) may.shut (s.kept.noted l a t leaf noted) in
     let h : Ledger = record { owner = with_fact (with_leaf g.owner l a') fact; notes = set g.notes l (marked_notes (Swept p f m) t w) } in
     let h_is : h ≡ after_mark g l c k w = λ x. record { owner = with_fact (with_leaf g.owner l (with_stage a (one_more_mark (sym may.shut x)))) fact; notes = set g.notes l (marked_notes (sym may.shut x) t w) } in
+    let swept = (as_swept (W.claim l) (W.first l) W.next W.slot a p f m may.shut (s.sound.shape.lists.lists l a leaf)).1 in
     let wide = s.wide in (
       h,
       record {
@@ -114,6 +124,7 @@ mark_may lists chunks g l c k lt below may words guests s small =
       },
       record {
         ledger_is = h_is ∙ ap (after_mark g l c k) is;
+        unmarked = subst (λ (x : Word). x.high ≡ false) is (unmarked_next (W.claim l) W.slot a f m c k swept may.here);
         small = subst (λ (x : Word). x.value ≤ 4294967296) is (s.items c k);
       },
     )

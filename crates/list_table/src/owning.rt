@@ -1,5 +1,5 @@
 //! The steps by which the owner fills its lists and shuts them.
-ghost use Rattle.std.specs.Prelude.{◌≡◌, ℕ, ◌<◌, ◌≤◌, ◌%◌, ◌^◌, length, Some};
+ghost use Rattle.std.specs.Prelude.{◌≡◌, ℕ, ◌<◌, ◌≤◌, ◌%◌, ◌^◌, false, length, Some};
 ghost use Rattle.list_machine.specs.Words.{decode};
 ghost use Rattle.list_machine.specs.Facts.{LeadsTo};
 ghost use Rattle.list_machine.specs.declared.views.Stage.TheVariants.{Open};
@@ -105,6 +105,7 @@ impl SharedLists {
         requires next { MayMark seat.old.ledger list chunk slot }
         ensures name { seat.new.name ≡ seat.old.name }
         ensures ledger { seat.new.ledger ≡ after_mark seat.old.ledger list chunk slot (decode result) }
+        ensures unmarked { (decode result).high ≡ false }
         ensures small { (decode result).value ≤ 2 ^ 32 }
     {
         let word = self.slot_place(chunk, slot);

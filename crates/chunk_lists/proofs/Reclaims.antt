@@ -1,10 +1,8 @@
 -- The next shut list is cleared, in the book and in the ledger, and lists are cleared one after another.
-use Rattle.std.proofs.Common.{◌≡◌, ℕ, suc, ◌+◌, ◌*◌, ◌<◌, ◌≤◌, inl, inr, ⊎_elim, cond, List, [], ◌∷◌, ◌++◌, Some, length, get_or, set, take, drop, sum_by, Contains, refl, sym, ap, ◌∙◌, subst, arith}
-use Rattle.std.proofs.lemmas.Bool.{cases_lt}
+use Rattle.std.proofs.Common.{◌≡◌, ℕ, suc, ◌+◌, ◌*◌, ◌<◌, inr, ⊎_elim, List, [], ◌∷◌, ◌++◌, Some, length, get_or, set, take, Contains, refl, sym, ap, ◌∙◌, subst, arith}
 use Rattle.std.proofs.lemmas.Option.{slice_get-get_or, same_Some}
-use Rattle.std.proofs.lemmas.List.{length-append, length-take}
+use Rattle.std.proofs.lemmas.List.{length-append}
 use Rattle.std.proofs.lemmas.List.Elements.{Contains-append_left, Contains-append_right}
-use Rattle.std.proofs.lemmas.List.Sums.{sum_by-set}
 use Rattle.std.proofs.Math.Seq.{take-suc}
 use Rattle.list_machine.specs.Facts.{IsAt, place_of}
 use Rattle.list_machine.specs.Rule.{AreOrdered, IsBegun}
@@ -12,17 +10,17 @@ use Rattle.list_machine.specs.declared.views.Stage.{Stage}
 use Rattle.list_machine.specs.declared.views.Stage.TheVariants.{Open as Unshut, Swept, Cleared}
 use Rattle.list_machine.specs.declared.views.Leaf.{Leaf}
 use Rattle.list_machine.proofs.Lists.{at_same, at_below}
-use Rattle.list_words.specs.Store.{Row, Store, row_in, no_row, emptied, is_shut, held_in, held_of, chunks_of, clear_rows, Unreached, IsReclaimed}
+use Rattle.list_words.specs.Store.{Row, Store, cleared_store, row_in, emptied, chunks_of}
 use Rattle.list_words.specs.declared.leaf_lists.Phase.{Phase}
 use Rattle.list_words.specs.declared.leaf_lists.Phase.TheVariants.{Fresh, Open, Shut}
-use Rattle.list_words.proofs.ReclaimLaws.{clear_rows-push, drop-push, drop_all_taken}
+use Rattle.list_words.proofs.ClearLaws.{IsClearing, clearing_more, clearing_none, contains_last}
 use Rattle.list_book.specs.Books.{BookRow, BookValue, book_row, row_count, emptied_row, next_in_order, MayClearNext, with_next_cleared}
 use Rattle.list_table.specs.Ledgers.{no_notes, leaf_of, notes_of}
 use Rattle.list_table.specs.OwnerMoves.{MayBegin, chunks_in}
 use Rattle.list_table.specs.declared.views.Notes.{Notes}
 use Rattle.list_table.specs.declared.views.Ledger.{Ledger}
 use Rattle.list_table.proofs.Frames.{leaf_at}
-use Rattle.chunk_lists.specs.Keepers.{KeeperValue, rows_of, store_of, KnownIn, cleared_store, IsInPhase, IsTiedRow, AreTied}
+use Rattle.chunk_lists.specs.Keepers.{KeeperValue, rows_of, store_of, KnownIn, IsInPhase, IsTiedRow, AreTied}
 use Rattle.chunk_lists.specs.Wipes.{cleared_ledger}
 use Rattle.chunk_lists.proofs.Ties.{OneChanges, tied_set, store_then, row_is}
 
@@ -94,66 +92,6 @@ module _ (lists chunks : ℕ) (g : Ledger) (b : BookValue) (t : AreTied lists ch
 
 -- ---- lists that are cleared in turn
 
--- stores after some of the lists that may be cleared were cleared
-pub record IsClearing (s u : Store) : Type 0 where
-  pub rises : s.cleared ≤ u.cleared
-  pub nobody : (k : ℕ) → s.cleared ≤ k → k < u.cleared → Unreached s.out k
-  pub free : u.free + held_of u ≡ s.free + held_of s
-  pub rest : u ≡ record s { rows = clear_rows (drop s.cleared (take u.cleared s.order)) s.rows; free = u.free; cleared = u.cleared }
-
-pub clearing_none : (s : Store) → IsClearing s s
-clearing_none s = record {
-  rises = omega arith;
-  nobody = λ k low high. absurd (omega arith);
-  free = refl;
-  rest = ap (λ (ls : List ℕ). let u : Store = record s { rows = clear_rows ls s.rows } in u) (sym (drop_all_taken s.cleared s.order));
-}
-
-pub clearing_more : (s u : Store) → IsClearing s u → u.cleared < length u.order → Unreached u.out u.cleared → (row_in u.rows (get_or u.order u.cleared 0)).phase ≡ Shut → get_or u.order u.cleared 0 < length u.rows → IsClearing s (cleared_store u (get_or u.order u.cleared 0))
-clearing_more s u done some nobody shut low =
-    let l : ℕ = get_or u.order u.cleared 0 in
-    let r : Row = row_in u.rows l in
-    let order_is : u.order ≡ s.order = ap (λ (x : Store). x.order) done.rest in
-    let out_is : u.out ≡ s.out = ap (λ (x : Store). x.out) done.rest in
-    let some_s : u.cleared < length s.order = subst (λ (xs : List ℕ). u.cleared < length xs) order_is some in
-    let l_is : get_or s.order u.cleared 0 ≡ l = ap (λ (xs : List ℕ). get_or xs u.cleared 0) (sym order_is) in
-    let taken : take (suc u.cleared) s.order ≡ take u.cleared s.order ++ l ∷ [] = take-suc s.order u.cleared 0 some_s ∙ ap (λ k. take u.cleared s.order ++ k ∷ []) l_is in
-    let long : s.cleared ≤ length (take u.cleared s.order) = omega (arith, length-take u.cleared s.order, done.rises) in
-    let names : drop s.cleared (take (suc u.cleared) s.order) ≡ drop s.cleared (take u.cleared s.order) ++ l ∷ [] = ap (drop s.cleared) taken ∙ drop-push s.cleared (take u.cleared s.order) l long in
-    let rows_u : u.rows ≡ clear_rows (drop s.cleared (take u.cleared s.order)) s.rows = ap (λ (x : Store). x.rows) done.rest in
-    let rows_new : set u.rows l (emptied r) ≡ clear_rows (drop s.cleared (take (suc u.cleared) s.order)) s.rows =
-    ap (λ (rows : List Row). set rows l (emptied (row_in rows l))) rows_u
-    ∙ (sym (clear_rows-push (drop s.cleared (take u.cleared s.order)) l s.rows)
-    ∙ ap (λ (ls : List ℕ). clear_rows ls s.rows) (sym names)) in
-    let sums : sum_by held_in (set u.rows l (emptied r)) + held_in r ≡ sum_by held_in u.rows + held_in (emptied r) = sum_by-set held_in u.rows l (emptied r) no_row low in
-    let held_new : held_in (emptied r) ≡ 0 = ap (λ p. cond (is_shut p) 0 0) shut in
-    let held_old : held_in r ≡ length (chunks_of r) = ap (λ p. cond (is_shut p) (length (chunks_of r)) 0) shut in
-    record {
-      rises = omega (arith, done.rises);
-      nobody = λ k from below. elim (cases_lt k u.cleared) [
-        | inl before ↦ done.nobody k from before
-        | inr last ↦ let same : k ≡ u.cleared = omega arith in subst (λ j. Unreached s.out j) (sym same) (subst (λ (xs : List ℕ). Unreached xs u.cleared) out_is nobody)
-      ];
-      free = omega (arith, done.free, sums, held_new, held_old);
-      rest =
-          ap (λ (rows : List Row). let x : Store = record u { rows = rows; free = u.free + length (chunks_of r); cleared = suc u.cleared } in x) rows_new
-          ∙ ap (λ (x : Store). let y : Store = record x { rows = clear_rows (drop s.cleared (take (suc u.cleared) s.order)) s.rows; free = u.free + length (chunks_of r); cleared = suc u.cleared } in y) done.rest;
-    }
-
-pub cleared_all : (s u : Store) → IsClearing s u → u.cleared ≤ length u.order → ((u.cleared < length u.order) × Unreached u.out u.cleared → ⊥) → IsReclaimed s u
-cleared_all s u done begun stop =
-    let order_is : u.order ≡ s.order = ap (λ (x : Store). x.order) done.rest in
-    let out_is : u.out ≡ s.out = ap (λ (x : Store). x.out) done.rest in record {
-      to = record {
-        rises = done.rises;
-        within = subst (λ (xs : List ℕ). u.cleared ≤ length xs) order_is begun;
-        nobody = done.nobody;
-        stops = λ some nobody. stop (subst (λ (xs : List ℕ). u.cleared < length xs) (sym order_is) some, subst (λ (xs : List ℕ). Unreached xs u.cleared) (sym out_is) nobody);
-      };
-      free = done.free;
-      rest = done.rest;
-    }
-
 -- an owner after some of the lists that may be cleared were cleared: nothing is forgotten of the others
 pub record IsClearingOf (k q : KeeperValue) : Type 0 where
   pub stores : IsClearing (store_of k) (store_of q)
@@ -161,9 +99,6 @@ pub record IsClearingOf (k q : KeeperValue) : Type 0 where
 
 pub clearing_start : (k : KeeperValue) → IsClearingOf k k
 clearing_start k = record { stores = clearing_none (store_of k); known = λ h x uncleared known. known }
-
-contains_last : (l m : ℕ) → m ≡ l → Contains (l ∷ []) m
-contains_last l m same = let small : 0 < length (l ∷ []) = omega arith in (0, small, sym same)
 
 pub clearing_next : (k q n : KeeperValue) (l : ℕ) → IsClearingOf k q → MayClearNext q.book → l ≡ next_in_order q.book → store_of n ≡ cleared_store (store_of q) l → (row_in (store_of q).rows l).phase ≡ Shut → l < length (store_of q).rows
     → ((h x : ℕ) → (h ≡ l → ⊥) → KnownIn q h x → KnownIn n h x) → IsClearingOf k n

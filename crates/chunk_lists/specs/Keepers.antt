@@ -1,11 +1,11 @@
 -- The owner of lists, whose book and whose ledger tell the same of each list.
-use Rattle.std.specs.Prelude.{◌≡◌, ℕ, suc, ◌+◌, ◌<◌, ◌⊎◌, List, [], ◌∷◌, length, slice_set}
+use Rattle.std.specs.Prelude.{◌≡◌, ℕ, ◌+◌, ◌<◌, ◌⊎◌, List, [], ◌∷◌, length}
 use Rattle.list_machine.specs.Facts.{total}
 use Rattle.list_machine.specs.Steps.{opening_leaf}
 use Rattle.list_machine.specs.declared.views.Fact.TheVariants.{Item}
 use Rattle.list_machine.specs.declared.views.Stage.TheVariants.{Open as Unshut, Swept, Cleared}
 use Rattle.list_machine.specs.declared.views.Leaf.{Leaf}
-use Rattle.list_words.specs.Store.{Row, Store, chunks_of, emptied, row_in}
+use Rattle.list_words.specs.Store.{Row, Store}
 use Rattle.list_words.specs.declared.leaf_lists.Phase.{Phase}
 use Rattle.list_words.specs.declared.leaf_lists.Phase.TheVariants.{Fresh, Open, Shut}
 use Rattle.list_book.specs.Books.{BookRow, BookValue, book_row}
@@ -75,7 +75,3 @@ pub record AreTied (lists chunks : ℕ) (g : Ledger) (b : BookValue) : Type 0 wh
 pub record IsKeeper (lists : ListsValue) (seat : OwnerValue) (book : BookValue) : Type 0 where
   pub name : seat.name ≡ lists.name
   pub tied : AreTied lists.lists lists.chunks seat.ledger book
-
--- the store once a shut list is cleared, the next in the order
-abbrev pub cleared_store : Store → ℕ → Store
-cleared_store s l = record s { rows = slice_set s.rows l (emptied (row_in s.rows l)); free = s.free + length (chunks_of (row_in s.rows l)); cleared = suc s.cleared }

@@ -3,11 +3,11 @@ ghost use Rattle.std.specs.Vec.{vec_capacity};
 ghost use Rattle.list_machine.specs.Steps.{newcomer};
 ghost use Rattle.list_machine.specs.declared.views.Fact.{Fact};
 ghost use Rattle.list_machine.specs.declared.views.Fact.TheVariants.{Item, Closed, Empty};
-ghost use Rattle.list_words.specs.Store.{IsCleared, IsInNoChain, IsOpen, IsReclaimed, IsShut, Keeps, MayAdmit, admitted, chunks_of, found_in, held_of, lengthened, linked, one_less, one_more, opened, placed_in, roomier, row, seats_out, shut_now, with_chunk, with_row};
+ghost use Rattle.list_words.specs.Store.{IsCleared, IsInNoChain, IsOpen, IsReclaimed, IsShut, Keeps, MayAdmit, admitted, chunks_of, found_in, held_of, lengthened, linked, one_less, one_more, opened, placed_in, roomier, row, seats_out, shut_now, with_chunk, with_row, cleared_store};
 ghost use Rattle.list_words.specs.declared.leaf_lists.Phase.TheVariants.{Fresh};
 ghost use Rattle.list_book.specs.Books.{MayClearNext, fresh_book, next_in_order};
 ghost use Rattle.list_table.specs.Ledgers.{Knows, opening_ledger};
-ghost use Rattle.chunk_lists.specs.Keepers.{KnownIn, cleared_store, store_of, store_with};
+ghost use Rattle.chunk_lists.specs.Keepers.{KnownIn, store_of, store_with};
 
 use crate::sweeping::shut_and_mark;
 use crate::wiping::wipe;

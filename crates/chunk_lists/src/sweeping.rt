@@ -11,6 +11,7 @@ ghost use Rattle.chunk_lists.specs.Sweeps.{AreSwept, items_in};
 
 use list_machine::item_of;
 use list_table::{OwnerSeat, SharedLists};
+use list_words::push_within;
 
 /// Shuts a list, marks its slots as moved and appends the items that the marks find: those of the claimed slots, and
 /// then those of the used owned ones. It finds each item that the owner knows to stand in the list.
@@ -124,8 +125,6 @@ fn take_item(out: &mut Vec<u32>, word: u64)
     ensures capacity { vec_capacity out.old ≤ vec_capacity out.new }
 {
     if let Some(item) = item_of(word) {
-        let Ok(()) = out.push(item) else {
-            unreachable!()
-        };
+        push_within(out, item);
     }
 }

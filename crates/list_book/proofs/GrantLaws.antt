@@ -7,7 +7,7 @@ use Rattle.list_words.specs.PlainGrants.{MayGrant}
 use Rattle.list_words.specs.PlainRows.{PlainList, granted_list}
 use Rattle.list_words.specs.Plain.{list_in}
 use Rattle.list_words.specs.declared.leaf_lists.Phase.TheVariants.{Open}
-use Rattle.list_words.proofs.GivenLaws.{IsGranting, granted_more, granted_none}
+use Rattle.list_words.proofs.GrantLaws.{IsGranting, granted_more, granted_none}
 use Rattle.list_book.specs.Books.{BookRow, IsSized, granted_row, granted_rows, row_at}
 use Rattle.list_book.specs.BookKept.{bare_list}
 use Rattle.list_book.proofs.RowLaws.{bare-row, bare-set, open_low, sized-granted, sized-set}

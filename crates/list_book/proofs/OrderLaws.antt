@@ -2,6 +2,7 @@
 use Rattle.std.proofs.Common.{◌≡◌, ◌≢◌, ℕ, zero, suc, ◌+◌, ◌<◌, ◌≤◌, inl, inr, List, [], ◌∷◌, ◌++◌, length, set, Some, ap, refl, sym, subst, ◌∙◌, arith}
 use Rattle.std.specs.List.{slice_get}
 use Rattle.std.proofs.lemmas.Bool.{cases_eq, cases_lt}
+use Rattle.std.proofs.lemmas.Option.{same_Some}
 use Rattle.list_words.specs.declared.leaf_lists.Phase.TheVariants.{Open, Shut}
 use Rattle.list_words.proofs.Places.{slice_get-push}
 use Rattle.list_book.specs.Books.{BookRow, HasNoChunks, IsOrderOfShut, row_at}
@@ -10,9 +11,6 @@ use Rattle.list_book.proofs.RowLaws.{got_here, got_other, open_is_not_shut, open
 -- the list was shut
 abbrev pub WasShut : BookRow → Type 0
 WasShut r = r.phase ≡ Shut
-
-some_is : (x y : ℕ) → Some x ≡ Some y → x ≡ y
-some_is x y e = cc
 
 -- a list that is shut exactly where it was, and which got no chunk while it was shut
 pub listed-set : (rows : List BookRow) (order : List ℕ) (cleared l : ℕ) (b : BookRow) → IsOrderOfShut rows order cleared → l < length rows → (WasShut b → WasShut (row_at rows l)) → (WasShut (row_at rows l) → WasShut b)
@@ -99,7 +97,7 @@ listed-cleared rows order cleared l b kept low next shut_now none =
         | inl before ↦ rest.empty p m before at
         | inr late ↦
             let here : p ≡ cleared = omega arith in
-            let same : m ≡ l = some_is m l (sym at ∙ ap (slice_get order) here ∙ next) in
+            let same : m ≡ l = same_Some m l (sym at ∙ ap (slice_get order) here ∙ next) in
             put_here HasNoChunks rows l m b low same none
       ];
     }

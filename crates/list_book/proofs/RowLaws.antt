@@ -1,7 +1,7 @@
 -- Rows of a book: where they stand, and that they stay sized.
-use Rattle.std.proofs.Common.{◌≡◌, ◌≢◌, ℕ, zero, suc, ◌+◌, ◌*◌, ◌<◌, ◌≤◌, inl, inr, List, [], ◌∷◌, length, map, set, get_or, ap, refl, sym, subst, ◌∙◌, arith}
+use Rattle.std.proofs.Common.{◌≡◌, ◌≢◌, ℕ, ◌+◌, ◌*◌, ◌<◌, ◌≤◌, inl, inr, List, [], ◌∷◌, length, map, set, get_or, ap, refl, sym, subst, ◌∙◌, arith}
 use Rattle.std.proofs.lemmas.Bool.{cases_eq, cases_lt}
-use Rattle.std.proofs.lemmas.List.{get_or_past, get_or-set_same, get_or-set_other, length-append, map-set}
+use Rattle.std.proofs.lemmas.List.{get_or_default, get_or_past, get_or-set_same, get_or-set_other, length-append, map-set}
 use Rattle.std.proofs.Math.ListN.{get_or-map}
 use Rattle.list_words.specs.Plain.{list_in}
 use Rattle.list_words.specs.declared.leaf_lists.Phase.TheVariants.{Fresh, Open, Shut}
@@ -10,13 +10,8 @@ use Rattle.list_book.specs.BookKept.{bare_list}
 
 -- ---- the row that a call changes
 
-get_same : (rows : List BookRow) (l : ℕ) (d e : BookRow) → l < length rows → get_or rows l d ≡ get_or rows l e
-get_same [] l d e low = absurd (omega arith)
-get_same (r ∷ rows) zero d e low = refl
-get_same (r ∷ rows) (suc l) d e low = get_same rows l d e (omega arith)
-
 pub row_is : (rows : List BookRow) (l : ℕ) (old : BookRow) → l < length rows → old ≡ get_or rows l old → old ≡ row_at rows l
-row_is rows l old low is = is ∙ get_same rows l old fresh_row low
+row_is rows l old low is = is ∙ get_or_default rows l old fresh_row low
 
 -- a list that is open, or was shut, is one of the lists
 pub begun_low : (rows : List BookRow) (l : ℕ) → ((row_at rows l).phase ≡ Fresh → ⊥) → l < length rows

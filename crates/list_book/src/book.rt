@@ -1,6 +1,4 @@
-ghost use Rattle.std.specs.Prelude.{◌≡◌, ◌≢◌, ℕ, suc, ◌+◌, ◌-◌, ◌*◌, ◌/◌, ◌%◌, ◌^◌, ◌<◌, ◌≤◌, ◌⊎◌, if◌then◌else◌, All, AllPairs, replicate, map, Some, length, slice_get, sum, IfOk, OnOk, OnErr, MatchOption, vec_len};
-ghost use Rattle.std.specs.FinSet as set;
-ghost use Rattle.chunk_pool.specs.Numbers.{IsFree};
+ghost use Rattle.std.specs.Prelude.{◌≡◌, ◌≢◌, ℕ, suc, ◌+◌, ◌-◌, ◌*◌, ◌/◌, ◌%◌, ◌^◌, ◌<◌, ◌≤◌, if◌then◌else◌, All, AllPairs, replicate, map, Some, length, slice_get, sum, IfOk, OnOk, OnErr, MatchOption, vec_len};
 ghost use Rattle.list_machine.specs.declared.views.Grant.{Grant};
 ghost use Rattle.list_words.specs.Filing.{granted_in_all};
 ghost use Rattle.list_words.specs.PlainGrants.{MayGrant};
@@ -9,9 +7,9 @@ ghost use Rattle.list_words.specs.declared.leaf_lists.Phase.TheVariants.{Fresh};
 ghost use Rattle.list_book.specs.BookKept.{bare_list};
 ghost use Rattle.list_book.specs.Books.{IsInNoRow, IsSized, MayClearNext, MayGrantAll, TakesItems, book_held, book_row, fresh_book, fresh_row, granted_rows, lengthened_row, linked_row, next_in_order, opened_row, roomier_row, row_at, used_row, with_book_row, with_grants, with_next_cleared, with_seat, with_shut_list, with_taken_chunk, without_seat};
 
-use crate::list_row::{ListRow, push_within};
+use crate::list_row::ListRow;
 use chunk_pool::Pool;
-use list_words::Grant;
+use list_words::{Grant, count_off, push_within};
 use std::alloc::{AllocError, Global};
 use std::marker::Model;
 
@@ -240,7 +238,7 @@ impl Book {
     pub fn count_off(&mut self, birth: u32)
         ensures { self.new ≡ without_seat self.old birth }
     {
-        if count_one_off(&mut self.out, birth) {
+        if count_off(&mut self.out, birth) {
             self.seats -= 1;
         }
     }
@@ -264,8 +262,8 @@ impl Book {
     {
         let list = self.order[self.cleared as usize];
         let row = &mut self.rows[list as usize];
-        give_all(&mut self.pool, row.claimed());
-        give_all(&mut self.pool, row.owned());
+        self.pool.give_all(row.claimed());
+        self.pool.give_all(row.owned());
         self.held -= (row.claimed().len() + row.owned().len()) as u32;
         row.empty(self.alloc);
         self.cleared += 1;
@@ -301,32 +299,4 @@ fn grant_all(rows: &mut Vec<ListRow>, grants: &[Grant]) -> u32
         all += grant.n;
     }
     all
-}
-
-/// Counts one of a birth off. Where nobody of that birth is out, it answers false and the counts stay.
-fn count_one_off(out: &mut [u64], birth: u32) -> bool
-    ensures out { out.new ≡ counted_off out.old birth }
-    ensures counted { sum out.new + (if result then 1 else 0) ≡ sum out.old }
-{
-    let at = birth as usize;
-    if at < out.len() && 0 < out[at] {
-        out[at] -= 1;
-        true
-    } else {
-        false
-    }
-}
-
-/// Makes chunks free again that were in use, each once.
-fn give_all(pool: &mut Pool, chunks: &[u32])
-    requires below { (i c : ℕ) → slice_get chunks.now i ≡ Some c → c < pool.old.size }
-    requires taken { (i c : ℕ) → slice_get chunks.now i ≡ Some c → IsFree pool.old c → ⊥ }
-    requires apart { (i j c : ℕ) → slice_get chunks.now i ≡ Some c → slice_get chunks.now j ≡ Some c → i ≡ j }
-    ensures size { pool.new.size ≡ pool.old.size }
-    ensures count { set.len pool.new.free ≡ set.len pool.old.free + length chunks.now }
-    ensures given { (c : ℕ) → IsFree pool.new c → IsFree pool.old c ⊎ ((i : ℕ) × (slice_get chunks.now i ≡ Some c)) }
-{
-    for chunk in chunks {
-        pool.give(*chunk);
-    }
 }

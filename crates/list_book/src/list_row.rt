@@ -3,7 +3,7 @@ ghost use Rattle.std.specs.Vec.{vec_capacity};
 ghost use Rattle.list_book.specs.Books.{emptied_row, fresh_row, granted_row, lengthened_row, linked_row, roomier_row, shut_row, used_row};
 ghost use Rattle.list_words.specs.declared.leaf_lists.Phase.TheVariants.{Fresh, Open, Shut};
 
-use list_words::Phase;
+use list_words::{Phase, push_within};
 use std::alloc::{AllocError, Global};
 use std::marker::Model;
 
@@ -155,16 +155,4 @@ impl ListRow {
         self.claimed_room = 0;
         self.owned_room = 0;
     }
-}
-
-/// Appends a value for which there is room.
-pub fn push_within<T: Drop>(values: &mut Vec<T>, value: T)
-    requires { vec_len values.old < vec_capacity values.old }
-    ensures items { values.new.items ≡ values.old.items ++ value ∷ [] }
-    ensures len { vec_len values.new ≡ vec_len values.old + 1 }
-    ensures capacity { vec_capacity values.old ≤ vec_capacity values.new }
-{
-    let Ok(()) = values.push(value) else {
-        unreachable!()
-    };
 }

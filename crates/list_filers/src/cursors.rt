@@ -7,8 +7,8 @@ ghost use Rattle.list_machine.specs.Facts.{IsAt};
 ghost use Rattle.list_filers.specs.Cursors.{AreSorted, HasCursor, next_rank, chunk_of, fresh_cursor};
 ghost use Rattle.list_filers.specs.declared.cursors.Cursor.{Cursor};
 
-use crate::rooms::push_within;
 use list_machine::Grant;
+use list_words::push_within;
 
 /// A chunk in the claimed chain of a list.
 #[derive(Clone, Copy, Debug, PartialEq, Eq)]

@@ -6,12 +6,11 @@ ghost use Rattle.list_words.specs.Filing.{granted_in_all};
 ghost use Rattle.list_filers.specs.Filers.{shared_name, AreShown, IsNew};
 ghost use Rattle.list_filers.specs.Rooms.{no_room};
 
-use crate::rooms::push_within;
 use crate::ways::Ways;
 use crate::{FilerRoom, cursors};
 use list_machine::Grant;
 use list_table::{GuestSeat, SharedLists};
-use list_words::{Answer, Filed, Filings, SharedFiler};
+use list_words::{Answer, Filed, Filings, SharedFiler, push_within};
 use std::marker::Model;
 use std::sync::ledger::Ledger;
 use step_count::Steps;

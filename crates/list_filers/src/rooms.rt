@@ -1,5 +1,5 @@
 //! Memory for filers, which is reserved before they are made.
-ghost use Rattle.std.specs.Prelude.{◌≡◌, ◌+◌, ◌<◌, ◌≤◌, [], ◌∷◌, ◌++◌, vec_len, OnOk, OnErr};
+ghost use Rattle.std.specs.Prelude.{◌≡◌, ◌≤◌, [], OnOk, OnErr};
 ghost use Rattle.std.specs.Vec.{vec_capacity};
 ghost use Rattle.list_filers.specs.Rooms.{no_room, roomier};
 
@@ -70,16 +70,4 @@ impl FilerRoom {
         self.items = 0;
         (cursors, answers)
     }
-}
-
-/// Appends a value for which there is room.
-pub(crate) fn push_within<T: Drop>(values: &mut Vec<T>, value: T)
-    requires { vec_len values.old < vec_capacity values.old }
-    ensures items { values.new.items ≡ values.old.items ++ value ∷ [] }
-    ensures len { vec_len values.new ≡ vec_len values.old + 1 }
-    ensures capacity { vec_capacity values.old ≤ vec_capacity values.new }
-{
-    let Ok(()) = values.push(value) else {
-        unreachable!()
-    };
 }

@@ -1,7 +1,7 @@
 -- Where the items stand that answers name: at the home of their chunk, or nowhere.
 use Rattle.std.proofs.Common.{◌≡◌, ℕ, ◌+◌, ◌*◌, ◌<◌, ◌≤◌, ◌↔◌, Bool, false, IsTrue, List, length, Some, ap, sym, subst, ◌∙◌, arith}
 use Rattle.std.specs.List.{slice_get}
-use Rattle.std.proofs.lemmas.Option.{slice_get_within}
+use Rattle.std.proofs.lemmas.Option.{same_Some, slice_get_within}
 use Rattle.chunk_pool.specs.Numbers.{Numbers}
 use Rattle.list_words.specs.PlainRows.{PlainList}
 use Rattle.list_words.specs.Plain.{Bears, StandsAt, list_in}
@@ -19,11 +19,8 @@ pub stands_at_home : (lists : List PlainList) (homes : List Home) (pool : Number
     → StandsByRank (list_in lists l) h.rank item c i
 stands_at_home lists homes pool l item c i h kept at here =
     let e : Some (home_of l false at.rank) ≡ Some h = sym (kept.home false l at.rank c at.chunk) ∙ here in
-    let same : at.rank ≡ h.rank = ap (λ (x : Home). x.rank) (some_is e) in
+    let same : at.rank ≡ h.rank = ap (λ (x : Home). x.rank) (same_Some _ _ e) in
     subst (λ r. StandsByRank (list_in lists l) r item c i) same (at.chunk, at.within, at.stands)
-  where
-    some_is : {X : Type 0} {x y : X} → Some x ≡ Some y → x ≡ y
-    some_is e = cc
 
 -- in a chunk without a home nothing stands
 pub nothing_without_home : (lists : List PlainList) (homes : List Home) (pool : Numbers) (l item c i : ℕ) → AreHomed lists homes pool → length homes ≤ c → StandsAt (list_in lists l) item c i → ⊥

@@ -15,7 +15,7 @@ fresh_list zero l = refl
 fresh_list (suc n) zero = refl
 fresh_list (suc n) (suc l) = fresh_list n l
 
-no_chunk_there : (o : Bool) (r c : ℕ) → slice_get (chain o no_list) r ≡ Some c → ⊥
+pub no_chunk_there : (o : Bool) (r c : ℕ) → slice_get (chain o no_list) r ≡ Some c → ⊥
 no_chunk_there true r c at = cc
 no_chunk_there false r c at = cc
 

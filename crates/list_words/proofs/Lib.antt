@@ -1,7 +1,8 @@
 pub mod BearLaws
 pub mod ChunkLaws
+pub mod ClearLaws
 pub mod FreshLaws
-pub mod GivenLaws
+pub mod GrantLaws
 pub mod Grants
 pub mod Places
 pub mod PlainLaws

@@ -1,10 +1,10 @@
 -- How lists over vectors look as a store, after one list changed.
-use Rattle.std.proofs.Common.{◌≡◌, ℕ, zero, suc, ◌+◌, ◌-◌, ◌*◌, ◌<◌, ◌≤◌, ◌⊎◌, inl, inr, Bool, true, false, cond, List, [], ◌∷◌, ◌++◌, length, map, set, get_or, Some, Option, ap, refl, sym, subst, ◌∙◌, arith}
+use Rattle.std.proofs.Common.{◌≡◌, ℕ, suc, ◌+◌, ◌-◌, ◌*◌, ◌<◌, ◌≤◌, ◌⊎◌, inl, inr, Bool, true, false, cond, List, [], ◌∷◌, ◌++◌, length, map, set, get_or, Some, Option, ap, refl, sym, subst, ◌∙◌, arith}
 use Rattle.std.specs.Prelude.{All}
 use Rattle.std.specs.List.{Contains, slice_get, filter_map, sum_by}
 use Rattle.std.proofs.lemmas.Bool.{cases_eq, cases_lt}
 use Rattle.std.proofs.lemmas.Option.{slice_get_within, slice_get-get_or, get_or_from_slice_get}
-use Rattle.std.proofs.lemmas.List.{length-append, length-map, map-set, get_or_past, set_past, append_assoc}
+use Rattle.std.proofs.lemmas.List.{length-append, length-map, map-set, get_or_default, get_or_past, set_past, append_assoc}
 use Rattle.std.proofs.lemmas.List.Elements.{Contains-append_cases, Contains-append_left, Contains-append_right}
 use Rattle.std.proofs.lemmas.List.Sums.{sum_by-cons, sum_by-le-sum_by}
 use Rattle.chunk_pool.specs.Numbers.{Numbers, IsFree}
@@ -23,17 +23,13 @@ use Rattle.list_words.specs.declared.leaf_lists.Seen.{Seen}
 use Rattle.list_words.specs.declared.leaf_lists.Phase.{Phase}
 use Rattle.list_words.specs.declared.leaf_lists.Phase.TheVariants.{Fresh, Open, Shut}
 use Rattle.list_words.specs.declared.plain_homes.Home.{Home}
+use Rattle.list_words.proofs.FreshLaws.{no_chunk_there}
 use Rattle.list_words.proofs.PlainLaws.{count-le, homed-set, list_in-set_other, list_in-set_same, open_within, ordered-set, row-map, store-with_list, summed-set}
 
 -- ---- the list that a call changes
 
-pub get_same : (xs : List PlainList) (i : ℕ) (d e : PlainList) → i < length xs → get_or xs i d ≡ get_or xs i e
-get_same [] i d e low = absurd (omega arith)
-get_same (x ∷ xs) zero d e low = refl
-get_same (x ∷ xs) (suc i) d e low = get_same xs i d e (omega arith)
-
 pub list_is : (lists : List PlainList) (l : ℕ) (old : PlainList) → l < length lists → old ≡ get_or lists l old → old ≡ list_in lists l
-list_is lists l old low is = is ∙ get_same lists l old no_list low
+list_is lists l old low is = is ∙ get_or_default lists l old no_list low
 
 pub store_changed : (p : Plain) (l : ℕ) (old new : PlainList) (f : Row → Row) → old ≡ list_in p.lists l → row_of new ≡ f (row_of old) → store_of (with_list p l new) ≡ with_row (store_of p) l (f (row (store_of p) l))
 store_changed p l old new f is changed = store-with_list p l new ∙ ap (with_row (store_of p) l) (changed ∙ ap f (ap row_of is ∙ sym (row-map p.lists l)))
@@ -221,10 +217,6 @@ store_chunk p l old new f n is changed one =
     ∙ ap (λ k. let s : Store = record (store_of p) { rows = set (map row_of p.lists) l (f (row (store_of p) l)); free = k } in s) less
 
 -- ---- clearing, and places of chunks
-
-no_chunk_there : (o : Bool) (r c : ℕ) → slice_get (chain o no_list) r ≡ Some c → ⊥
-no_chunk_there true r c at = cc
-no_chunk_there false r c at = cc
 
 pub chunk_low : (lists : List PlainList) (owned : Bool) (l r c : ℕ) → chunk_at lists owned l r ≡ Some c → l < length lists
 chunk_low lists owned l r c at = elim (cases_lt l (length lists)) [

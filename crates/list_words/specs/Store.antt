@@ -1,5 +1,5 @@
 -- The lists of leaves as plain data.
-use Rattle.std.specs.Prelude.{◌≡◌, ℕ, ◌+◌, ◌-◌, ◌*◌, ◌<◌, ◌≤◌, Bool, true, false, if◌then◌else◌, max, List, [], ◌∷◌, ◌++◌, length, take, drop, sum, sum_by, slice_set, slice_index, slice_index_or, Option, Contains, AllPairs, ◌≢◌, All}
+use Rattle.std.specs.Prelude.{◌≡◌, ℕ, suc, ◌+◌, ◌-◌, ◌*◌, ◌<◌, ◌≤◌, Bool, true, false, if◌then◌else◌, max, List, [], ◌∷◌, ◌++◌, length, take, drop, sum, sum_by, slice_set, slice_index, slice_index_or, Option, Contains, AllPairs, ◌≢◌, All}
 use Rattle.std.specs.List.{filter_map}
 use Rattle.list_machine.specs.declared.views.Grant.{Grant}
 use Rattle.list_words.specs.Filing.{granted_in_all}
@@ -191,6 +191,10 @@ pub record ClearsTo (s : Store) (n : ℕ) : Type 0 where
 abbrev pub clear_rows : List ℕ → List Row → List Row
 clear_rows [] rows = rows
 clear_rows (l ∷ ls) rows = clear_rows ls (slice_set rows l (emptied (row_in rows l)))
+
+-- the store once a shut list is cleared, the next in the order
+abbrev pub cleared_store : Store → ℕ → Store
+cleared_store s l = record s { rows = slice_set s.rows l (emptied (row_in s.rows l)); free = s.free + length (chunks_of (row_in s.rows l)); cleared = suc s.cleared }
 
 -- exactly the lists that may be cleared are cleared, and their chunks are free
 pub record IsReclaimed (old new : Store) : Type 0 where

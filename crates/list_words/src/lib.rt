@@ -1,6 +1,7 @@
 //! Lists of items for the leaves of an octree: what every kind of lists promises, and lists over vectors.
 #![tactic(auto)]
 
+mod births;
 mod leaf_lists;
 mod plain_filer;
 mod plain_homes;
@@ -9,9 +10,12 @@ mod plain_row;
 mod shared_filer;
 #[cfg(test)]
 mod tests;
+mod within;
 
+pub use births::count_off;
 pub use leaf_lists::{Answer, Filed, Filings, LeafLists, Phase, Seen};
-pub use list_machine::{Claimed, Grant, claim, clear, file, item_of, link, mark, shut};
+pub use list_machine::Grant;
 pub use plain_filer::{PlainFiler, PlainReader};
 pub use plain_lists::PlainLists;
 pub use shared_filer::{ListsOf, SharedFiler};
+pub use within::push_within;

@@ -2,7 +2,7 @@ ghost use Rattle.std.specs.Prelude.{◌≡◌, ◌≤◌, []};
 ghost use Rattle.std.specs.Vec.{vec_capacity};
 ghost use Rattle.list_words.specs.Filing.{HasGrant, answered, granted_in_all};
 
-use crate::plain_row::push_within;
+use crate::within::push_within;
 use crate::{Answer, Filed, Filings, Grant};
 use std::marker::Model;
 

@@ -1,13 +1,11 @@
-ghost use Rattle.std.specs.Prelude.{◌≡◌, ◌≢◌, ℕ, suc, ◌+◌, ◌-◌, ◌*◌, ◌/◌, ◌%◌, ◌^◌, ◌<◌, ◌≤◌, ◌↔◌, ◌⊎◌, Bool, if◌then◌else◌, All, AllPairs, replicate, List, [], ◌++◌, Option, Some, length, slice_get, slice_index, sum, Contains, IfOk, OnOk, OnErr, IsTrue, vec_len};
-ghost use Rattle.std.specs.FinSet as set;
-ghost use Rattle.chunk_pool.specs.Numbers.{IsFree};
+ghost use Rattle.std.specs.Prelude.{◌≡◌, ◌≢◌, ℕ, suc, ◌+◌, ◌-◌, ◌*◌, ◌/◌, ◌%◌, ◌^◌, ◌<◌, ◌≤◌, ◌↔◌, Bool, if◌then◌else◌, All, AllPairs, replicate, List, [], ◌++◌, Option, Some, length, slice_get, Contains, IfOk, OnOk, OnErr, IsTrue, vec_len};
 ghost use Rattle.list_machine.specs.Words.{decode};
 ghost use Rattle.list_machine.specs.declared.views.Grant.{Grant};
 ghost use Rattle.list_words.specs.Filing.{HasGrant, answered, granted_in_all};
 ghost use Rattle.list_words.specs.Plain.{Bears, BearsOut, Knows, SameFiled, chunk_at, fresh_plain, list_in, next_cleared, next_list, seat_of, slot_word, store_of, with_list};
 ghost use Rattle.list_words.specs.PlainRows.{filed_list, items_of, no_list};
 ghost use Rattle.list_words.specs.PlainGrants.{MayGrant, grant_lists};
-ghost use Rattle.list_words.specs.Store.{IsCleared, IsInNoChain, IsOpen, IsReclaimed, IsShut, Keeps, MayAdmit, Unreached, admitted, birth_now, chunks_of, counted_off, found_in, lengthened, linked, one_less, one_more, opened, placed_in, roomier, row, seats_out, shut_now, with_chunk, with_filer_room, with_row};
+ghost use Rattle.list_words.specs.Store.{IsCleared, IsInNoChain, IsOpen, IsReclaimed, IsShut, Keeps, MayAdmit, Unreached, admitted, birth_now, chunks_of, found_in, lengthened, linked, one_less, one_more, opened, placed_in, roomier, row, seats_out, shut_now, with_chunk, with_filer_room, with_row};
 ghost use Rattle.list_words.specs.declared.leaf_lists.Filed.TheVariants.{At, Late};
 ghost use Rattle.list_words.specs.declared.leaf_lists.Answer.{Answer};
 ghost use Rattle.list_words.specs.declared.leaf_lists.Seen.{Seen};
@@ -15,9 +13,11 @@ ghost use Rattle.list_words.specs.declared.leaf_lists.Phase.TheVariants.{Fresh, 
 ghost use Rattle.std.specs.Vec.{vec_capacity};
 ghost use Rattle.list_words.specs.declared.leaf_lists.Seen.TheVariants.{Shut as SawShut};
 
+use crate::births::{count_off, is_counted};
 use crate::plain_filer::PlainReader;
 use crate::plain_homes::Home;
-use crate::plain_row::{PlainRow, append_within, push_within};
+use crate::plain_row::PlainRow;
+use crate::within::{append_within, push_within};
 use crate::{Answer, Filed, Grant, LeafLists, Phase, PlainFiler};
 use chunk_pool::Pool;
 use std::alloc::{AllocError, Global};
@@ -158,8 +158,8 @@ impl PlainLists {
     {
         let list = self.order[self.cleared as usize];
         let row = &mut self.rows[list as usize];
-        give_all(&mut self.pool, row.claimed());
-        give_all(&mut self.pool, row.owned());
+        self.pool.give_all(row.claimed());
+        self.pool.give_all(row.owned());
         self.held -= (row.claimed().len() + row.owned().len()) as u32;
         row.empty(self.alloc);
         self.cleared += 1;
@@ -425,40 +425,4 @@ fn grant_all(rows: &mut Vec<PlainRow>, grants: &[Grant]) -> u32
         all += grant.n;
     }
     all
-}
-
-/// Whether anybody of a birth is out.
-fn is_counted(out: &[u64], birth: u32) -> bool
-    ensures { IsTrue result ↔ (0 < slice_index out.now birth) }
-{
-    let at = birth as usize;
-    at < out.len() && 0 < out[at]
-}
-
-/// Counts one of a birth off. Where nobody of that birth is out, it answers false and the counts stay.
-fn count_off(out: &mut [u64], birth: u32) -> bool
-    ensures out { out.new ≡ counted_off out.old birth }
-    ensures counted { sum out.new + (if result then 1 else 0) ≡ sum out.old }
-{
-    let at = birth as usize;
-    if at < out.len() && 0 < out[at] {
-        out[at] -= 1;
-        true
-    } else {
-        false
-    }
-}
-
-/// Makes chunks free again that were in use, each once.
-fn give_all(pool: &mut Pool, chunks: &[u32])
-    requires below { (i c : ℕ) → slice_get chunks.now i ≡ Some c → c < pool.old.size }
-    requires taken { (i c : ℕ) → slice_get chunks.now i ≡ Some c → IsFree pool.old c → ⊥ }
-    requires apart { (i j c : ℕ) → slice_get chunks.now i ≡ Some c → slice_get chunks.now j ≡ Some c → i ≡ j }
-    ensures size { pool.new.size ≡ pool.old.size }
-    ensures count { set.len pool.new.free ≡ set.len pool.old.free + length chunks.now }
-    ensures given { (c : ℕ) → IsFree pool.new c → IsFree pool.old c ⊎ ((i : ℕ) × (slice_get chunks.now i ≡ Some c)) }
-{
-    for chunk in chunks {
-        pool.give(*chunk);
-    }
 }

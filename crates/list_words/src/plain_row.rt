@@ -8,7 +8,9 @@ ghost use Rattle.list_words.specs.declared.leaf_lists.Filed.TheVariants.{At, Lat
 ghost use Rattle.list_words.specs.declared.leaf_lists.Seen.TheVariants.{Shut as SawShut};
 ghost use Rattle.list_words.specs.declared.leaf_lists.Phase.TheVariants.{Fresh, Open, Shut};
 
-use crate::{Filed, Phase, Seen, file, mark};
+use crate::within::{append_within, push_within};
+use crate::{Filed, Phase, Seen};
+use list_machine::{file, mark};
 use std::alloc::{AllocError, Global};
 use std::marker::Model;
 
@@ -282,28 +284,4 @@ fn reserve_chunks(chunks: &mut Vec<u32>, items: &mut Vec<u32>, more: u32) -> Res
     let slots = SLOTS * (chunks.len() + more as usize);
     items.reserve(slots - items.len())?;
     Ok(())
-}
-
-/// Appends a value for which there is room.
-pub fn push_within<T: Drop>(values: &mut Vec<T>, value: T)
-    requires { vec_len values.old < vec_capacity values.old }
-    ensures items { values.new.items ≡ values.old.items ++ value ∷ [] }
-    ensures len { vec_len values.new ≡ vec_len values.old + 1 }
-    ensures capacity { vec_capacity values.old ≤ vec_capacity values.new }
-{
-    let Ok(()) = values.push(value) else {
-        unreachable!()
-    };
-}
-
-/// Appends values for which there is room.
-pub fn append_within<T: Copy + Drop>(values: &mut Vec<T>, more: &[T])
-    requires { vec_len values.old + length more.now ≤ vec_capacity values.old }
-    ensures items { values.new.items ≡ values.old.items ++ more.now }
-    ensures len { vec_len values.new ≡ vec_len values.old + length more.now }
-    ensures capacity { vec_capacity values.old ≤ vec_capacity values.new }
-{
-    let Ok(()) = values.extend_from_slice(more) else {
-        unreachable!()
-    };
 }

@@ -1,7 +1,7 @@
 use Rattle.std.proofs.Common.{◌≡◌, ◌+◌, ◌<◌, length, get_or, map, set, ap, sym, subst, ◌∙◌, arith}
+use Rattle.std.proofs.lemmas.List.{get_or_default}
 use Rattle.list_machine.specs.declared.views.Grant.{Grant}
 use Rattle.list_words.specs.PlainGrants.{MayGrant}
-use Rattle.list_words.proofs.GivenLaws.{get_same_grant}
 use Rattle.list_book.specs.Books.{BookRow, granted_row, row_at}
 use Rattle.list_book.specs.BookKept.{bare_list}
 use Rattle.list_book.proofs.GrantLaws.{IsGrantingRows, granting_more, granting_none, may_open}
@@ -27,4 +27,4 @@ loop-grant-preserved c =
     let e : c.grant.new.self ≡ granted_row (row_at c.loop-grant.rows.items g.list) g.n = c.grant.ensures ∙ ap (λ (r : BookRow). granted_row r g.n) is in
     subst (λ (b : BookRow). IsGrantingRows c.args.grants.now c.args.rows.now.items (set c.loop-grant.rows.items g.list b) (c.loop-grant.all + g.n) (c.loop-grant.grant-index + 1)) (sym e)
     (granting_more c.args.grants.now c.args.rows.now.items c.loop-grant.rows.items c.loop-grant.all c.loop-grant.grant-index g c.loop-grant.invariant c.loop-grant-test.true
-    (get_same_grant c.args.grants.now c.loop-grant.grant-index g (record { list = 0; n = 0 }) c.loop-grant-test.true) c.requires.apart may)
+    (get_or_default c.args.grants.now c.loop-grant.grant-index g (record { list = 0; n = 0 }) c.loop-grant-test.true) c.requires.apart may)

@@ -1,4 +1,4 @@
-use Rattle.list_words.proofs.GivenLaws.{IsGranting}
+use Rattle.list_words.proofs.GrantLaws.{IsGranting}
 use Rattle.list_words.proofs.plain_lists.grant_all.Given as goal
 
 abbrev pub invariant-loop-grant : goal.invariant-loop-grant

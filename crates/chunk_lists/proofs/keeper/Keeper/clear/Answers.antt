@@ -2,14 +2,14 @@ use Rattle.std.proofs.Common.{◌≡◌, ℕ, ◌<◌, true, false, List, length
 use Rattle.std.proofs.lemmas.Option.{slice_get-get_or}
 use Rattle.list_machine.specs.Facts.{IsAt}
 use Rattle.list_machine.specs.declared.views.Fact.TheVariants.{Item}
-use Rattle.list_words.specs.Store.{Row, row}
+use Rattle.list_words.specs.Store.{Row, cleared_store, row}
 use Rattle.list_words.specs.declared.leaf_lists.Phase.TheVariants.{Shut}
 use Rattle.list_book.specs.Books.{BookValue, MayClearNext, book_row, next_in_order}
 use Rattle.list_table.specs.OwnerMoves.{MayBegin}
 use Rattle.list_table.specs.Tables.{OwnerValue}
 use Rattle.list_table.specs.declared.views.Ledger.{Ledger}
 use Rattle.list_table.proofs.Clears.{others_stay}
-use Rattle.chunk_lists.specs.Keepers.{IsKeeper, KnownIn, cleared_store, store_of}
+use Rattle.chunk_lists.specs.Keepers.{IsKeeper, KnownIn, store_of}
 use Rattle.chunk_lists.specs.Wipes.{cleared_ledger}
 use Rattle.chunk_lists.proofs.Reclaims.{may_begin, next_below, store_cleared, tied_cleared}
 use Rattle.chunk_lists.proofs.Rows.{rows_length}

@@ -3,6 +3,7 @@ use Rattle.std.specs.List.{slice_get}
 use Rattle.std.specs.FinSet as set_of
 use Rattle.std.proofs.lemmas.Grind.{get_or_default_zero}
 use Rattle.chunk_pool.specs.Numbers.{IsFree}
+use Rattle.chunk_pool.proofs.GiveLaws.{given_free, given_size}
 use Rattle.list_words.specs.Store.{Unreached}
 use Rattle.list_words.proofs.ChunkLaws.{SamePlace}
 use Rattle.list_book.specs.Books.{BookRow, BookValue, IsSized, chunk_in, emptied_row, row_at, row_count, with_next_cleared}
@@ -62,7 +63,7 @@ give_all-requires-2-clause-below c =
     let owned_at : (i k : ℕ) → slice_get c.owned.result.now i ≡ Some k → chunk_in c.self.inside.rows.items true l i ≡ Some k = in_chain c.self.inside.rows.items true l c.index_mut-row.result.now c.owned.result.now is c.owned.ensures in
     λ i k at.
     let small : k < c.self.inside.pool.size = chunk_below c.self.inside.rows.items c.self.inside.pool c.self.inside.held c.self.inside.order.items c.self.inside.cleared c.self.inside.out.items c.self.inside.seats c.self.invariant.sound true l i k (owned_at i k at) in
-    omega (arith, c.give_all.ensures.size)
+    omega (arith, given_size _ _ _ c.give_all.ensures.after)
 
 differ : true ≡ false → ⊥
 differ e = cc
@@ -76,7 +77,7 @@ give_all-requires-2-clause-taken c =
     let is : c.index_mut-row.result.now ≡ row_at c.self.inside.rows.items l = row_is c.self.inside.rows.items l c.index_mut-row.result.now n.low c.index_mut-row.ensures.value in
     let claimed_at : (i k : ℕ) → slice_get c.claimed.result.now i ≡ Some k → chunk_in c.self.inside.rows.items false l i ≡ Some k = in_chain c.self.inside.rows.items false l c.index_mut-row.result.now c.claimed.result.now is c.claimed.ensures in
     let owned_at : (i k : ℕ) → slice_get c.owned.result.now i ≡ Some k → chunk_in c.self.inside.rows.items true l i ≡ Some k = in_chain c.self.inside.rows.items true l c.index_mut-row.result.now c.owned.result.now is c.owned.ensures in
-    λ i k at free. elim (c.give_all.ensures.given k free) [
+    λ i k at free. elim (given_free _ _ _ c.give_all.ensures.after k free) [
       | inl before ↦ chunk_taken c.self.inside.rows.items c.self.inside.pool c.self.inside.held c.self.inside.order.items c.self.inside.cleared c.self.inside.out.items c.self.inside.seats c.self.invariant.sound true l i k (owned_at i k at) before
       | inr back ↦
           let place : SamePlace true false l l i back.0 = chunk_place c.self.inside.rows.items c.self.inside.pool c.self.inside.held c.self.inside.order.items c.self.inside.cleared c.self.inside.out.items c.self.inside.seats c.self.invariant.sound true false l l i back.0 k (owned_at i k at) (claimed_at back.0 k back.1) in
@@ -135,23 +136,23 @@ invariant_of-self c =
     let owned : length c.owned-2.result.now ≡ length (row_at c.self.inside.rows.items l).owned = ap length (c.owned-2.ensures ∙ ap (λ (r : BookRow). r.owned) is) in
     let first : length c.claimed.result.now ≡ length (row_at c.self.inside.rows.items l).claimed = ap length (c.claimed.ensures ∙ ap (λ (r : BookRow). r.claimed) is) in
     let second : length c.owned.result.now ≡ length (row_at c.self.inside.rows.items l).owned = ap length (c.owned.ensures ∙ ap (λ (r : BookRow). r.owned) is) in
-    let size : c.give_all-2.new.pool.size ≡ c.self.inside.pool.size = c.give_all-2.ensures.size ∙ c.give_all.ensures.size in
-    let more : set_of.len c.give_all-2.new.pool.free ≡ set_of.len c.self.inside.pool.free + row_count (row_at c.self.inside.rows.items l) = omega (arith, c.give_all.ensures.count, c.give_all-2.ensures.count) in
+    let size : c.give_all-2.new.self.size ≡ c.self.inside.pool.size = given_size _ _ _ c.give_all-2.ensures.after ∙ given_size _ _ _ c.give_all.ensures.after in
+    let more : set_of.len c.give_all-2.new.self.free ≡ set_of.len c.self.inside.pool.free + row_count (row_at c.self.inside.rows.items l) = omega (arith, c.give_all.ensures.count, c.give_all-2.ensures.count) in
     let e : c.empty.new.self ≡ emptied_row (row_at c.self.inside.rows.items l) = c.empty.ensures ∙ ap emptied_row is in
     let count : row_count (row_at c.self.inside.rows.items l) ≡ length c.claimed-2.result.now + length c.owned-2.result.now = omega arith in
     let nobody : Unreached c.self.inside.out.items c.self.inside.cleared = subst (λ (b : BookValue). Unreached b.out b.cleared) (sym c.self.view_is) c.requires.nobody in
-    let given : (q : ℕ) → IsFree c.give_all-2.new.pool q → IsFree c.self.inside.pool q ⊎ ((w : Bool) × (i : ℕ) × (chunk_in c.self.inside.rows.items w l i ≡ Some q)) = λ q free.
-    elim (c.give_all-2.ensures.given q free) [
-      | inl mid ↦ elim (c.give_all.ensures.given q mid) [
+    let given : (q : ℕ) → IsFree c.give_all-2.new.self q → IsFree c.self.inside.pool q ⊎ ((w : Bool) × (i : ℕ) × (chunk_in c.self.inside.rows.items w l i ≡ Some q)) = λ q free.
+    elim (given_free _ _ _ c.give_all-2.ensures.after q free) [
+      | inl mid ↦ elim (given_free _ _ _ c.give_all.ensures.after q mid) [
         | inl before ↦ inl before
         | inr back ↦ inr (false, back.0, claimed_at back.0 q back.1)
       ]
       | inr back ↦ inr (true, back.0, owned_at back.0 q back.1)
     ] in
     record {
-      sound = subst (λ (b : BookRow). IsSound (set c.self.inside.rows.items l b) c.give_all-2.new.pool (c.self.inside.held - (length c.claimed-2.result.now + length c.owned-2.result.now)) c.self.inside.order.items (c.self.inside.cleared + 1) c.self.inside.out.items c.self.inside.seats) (sym e)
-          (subst (λ m. IsSound (set c.self.inside.rows.items l (emptied_row (row_at c.self.inside.rows.items l))) c.give_all-2.new.pool (c.self.inside.held - m) c.self.inside.order.items (c.self.inside.cleared + 1) c.self.inside.out.items c.self.inside.seats) count
-          (sound-cleared c.self.inside.rows.items c.self.inside.pool c.give_all-2.new.pool c.self.inside.held c.self.inside.order.items c.self.inside.cleared c.self.inside.out.items c.self.inside.seats l c.self.invariant.sound n.next nobody size more given));
+      sound = subst (λ (b : BookRow). IsSound (set c.self.inside.rows.items l b) c.give_all-2.new.self (c.self.inside.held - (length c.claimed-2.result.now + length c.owned-2.result.now)) c.self.inside.order.items (c.self.inside.cleared + 1) c.self.inside.out.items c.self.inside.seats) (sym e)
+          (subst (λ m. IsSound (set c.self.inside.rows.items l (emptied_row (row_at c.self.inside.rows.items l))) c.give_all-2.new.self (c.self.inside.held - m) c.self.inside.order.items (c.self.inside.cleared + 1) c.self.inside.out.items c.self.inside.seats) count
+          (sound-cleared c.self.inside.rows.items c.self.inside.pool c.give_all-2.new.self c.self.inside.held c.self.inside.order.items c.self.inside.cleared c.self.inside.out.items c.self.inside.seats l c.self.invariant.sound n.next nobody size more given));
       sized = sized-set c.self.inside.rows.items l c.empty.new.self c.self.invariant.sized n.low (subst IsSized (sym e) (sized-emptied (row_at c.self.inside.rows.items l) n.was));
       order_room = c.self.invariant.order_room;
       out_room = c.self.invariant.out_room;
@@ -169,7 +170,7 @@ returns c =
     let is : c.index_mut-row.result.now ≡ row_at c.self.inside.rows.items l = row_is c.self.inside.rows.items l c.index_mut-row.result.now n.low c.index_mut-row.ensures.value in
     let first : length c.claimed.result.now ≡ length (row_at c.self.inside.rows.items l).claimed = ap length (c.claimed.ensures ∙ ap (λ (r : BookRow). r.claimed) is) in
     let second : length c.owned.result.now ≡ length (row_at c.self.inside.rows.items l).owned = ap length (c.owned.ensures ∙ ap (λ (r : BookRow). r.owned) is) in
-    let size : c.give_all-2.new.pool.size ≡ c.self.inside.pool.size = c.give_all-2.ensures.size ∙ c.give_all.ensures.size in
-    let more : set_of.len c.give_all-2.new.pool.free ≡ set_of.len c.self.inside.pool.free + row_count (row_at c.self.inside.rows.items l) = omega (arith, c.give_all.ensures.count, c.give_all-2.ensures.count) in
+    let size : c.give_all-2.new.self.size ≡ c.self.inside.pool.size = given_size _ _ _ c.give_all-2.ensures.after ∙ given_size _ _ _ c.give_all.ensures.after in
+    let more : set_of.len c.give_all-2.new.self.free ≡ set_of.len c.self.inside.pool.free + row_count (row_at c.self.inside.rows.items l) = omega (arith, c.give_all.ensures.count, c.give_all-2.ensures.count) in
     let e : c.empty.new.self ≡ emptied_row (row_at c.self.inside.rows.items l) = c.empty.ensures ∙ ap emptied_row is in
-    cleared_view (book_of c.self.inside) l (set_of.len c.give_all-2.new.pool.free) (c.self.inside.cleared + 1) c.give_all-2.new.pool.size c.empty.new.self n.place e more (add-one c.self.inside.cleared) size ∙ ap with_next_cleared c.self.view_is
+    cleared_view (book_of c.self.inside) l (set_of.len c.give_all-2.new.self.free) (c.self.inside.cleared + 1) c.give_all-2.new.self.size c.empty.new.self n.place e more (add-one c.self.inside.cleared) size ∙ ap with_next_cleared c.self.view_is

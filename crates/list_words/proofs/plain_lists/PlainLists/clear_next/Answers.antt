@@ -5,6 +5,7 @@ use Rattle.std.proofs.lemmas.Grind.{get_or_default_zero}
 use Rattle.std.proofs.lemmas.Option.{slice_get-get_or, slice_get_within}
 use Rattle.std.proofs.lemmas.List.Sums.{get_or-le-sum_by}
 use Rattle.chunk_pool.specs.Numbers.{IsFree}
+use Rattle.chunk_pool.proofs.GiveLaws.{given_free, given_size}
 use Rattle.list_words.specs.Store.{Unreached, is_shut}
 use Rattle.list_words.specs.PlainRows.{PlainList, emptied_list, no_list}
 use Rattle.list_words.specs.Plain.{Plain, chunk_at, chunk_count, held_chunks, list_in, next_cleared, next_list}
@@ -73,7 +74,7 @@ give_all-requires-2-clause-below c =
     let claimed_at : (i k : ℕ) → slice_get c.claimed.result.now i ≡ Some k → chunk_at c.self.inside.rows.items false l i ≡ Some k = λ i k at. ap (λ (xs : List ℕ). slice_get xs i) (sym claimed) ∙ at in
     let owned : c.owned.result.now ≡ (list_in c.self.inside.rows.items l).owned = c.owned.ensures ∙ ap (λ (q : PlainList). q.owned) is in
     let owned_at : (i k : ℕ) → slice_get c.owned.result.now i ≡ Some k → chunk_at c.self.inside.rows.items true l i ≡ Some k = λ i k at. ap (λ (xs : List ℕ). slice_get xs i) (sym owned) ∙ at in
-    λ i k at. let small : k < length c.self.inside.homes.items = slice_get_within c.self.inside.homes.items k (home_of l true i) (c.self.invariant.homed.home true l i k (owned_at i k at)) in omega (arith, c.self.invariant.homed.size, c.give_all.ensures.size)
+    λ i k at. let small : k < length c.self.inside.homes.items = slice_get_within c.self.inside.homes.items k (home_of l true i) (c.self.invariant.homed.home true l i k (owned_at i k at)) in omega (arith, c.self.invariant.homed.size, given_size _ _ _ c.give_all.ensures.after)
 
 differ : true ≡ false → ⊥
 differ e = cc
@@ -90,7 +91,7 @@ give_all-requires-2-clause-taken c =
     let claimed_at : (i k : ℕ) → slice_get c.claimed.result.now i ≡ Some k → chunk_at c.self.inside.rows.items false l i ≡ Some k = λ i k at. ap (λ (xs : List ℕ). slice_get xs i) (sym claimed) ∙ at in
     let owned : c.owned.result.now ≡ (list_in c.self.inside.rows.items l).owned = c.owned.ensures ∙ ap (λ (q : PlainList). q.owned) is in
     let owned_at : (i k : ℕ) → slice_get c.owned.result.now i ≡ Some k → chunk_at c.self.inside.rows.items true l i ≡ Some k = λ i k at. ap (λ (xs : List ℕ). slice_get xs i) (sym owned) ∙ at in
-    λ i k at free. elim (c.give_all.ensures.given k free) [
+    λ i k at free. elim (given_free _ _ _ c.give_all.ensures.after k free) [
       | inl before ↦ c.self.invariant.homed.taken true l i k (owned_at i k at) before
       | inr back ↦ let place : SamePlace true false l l i back.0 = one_place c.self.inside.rows.items c.self.inside.homes.items c.self.inside.pool c.self.invariant.homed true false l l i back.0 k (owned_at i k at) (claimed_at back.0 k back.1) in differ place.owned
     ]
@@ -182,25 +183,25 @@ invariant_of-self c =
     let first : length c.claimed-2.result.now ≡ length (list_in c.self.inside.rows.items l).claimed = ap length (c.claimed-2.ensures ∙ ap (λ (q : PlainList). q.claimed) is) in
     let second : length c.owned-2.result.now ≡ length (list_in c.self.inside.rows.items l).owned = ap length (c.owned-2.ensures ∙ ap (λ (q : PlainList). q.owned) is) in omega arith in
     let e : c.empty.new.self ≡ emptied_list (list_in c.self.inside.rows.items l) = c.empty.ensures ∙ ap emptied_list is in
-    let size : c.give_all-2.new.pool.size ≡ c.self.inside.pool.size = c.give_all-2.ensures.size ∙ c.give_all.ensures.size in
-    let more : set_of.len c.give_all-2.new.pool.free ≡ set_of.len c.self.inside.pool.free + chunk_count (list_in c.self.inside.rows.items l) =
+    let size : c.give_all-2.new.self.size ≡ c.self.inside.pool.size = given_size _ _ _ c.give_all-2.ensures.after ∙ given_size _ _ _ c.give_all.ensures.after in
+    let more : set_of.len c.give_all-2.new.self.free ≡ set_of.len c.self.inside.pool.free + chunk_count (list_in c.self.inside.rows.items l) =
     let first : length c.claimed.result.now ≡ length (list_in c.self.inside.rows.items l).claimed = ap length claimed in
     let second : length c.owned.result.now ≡ length (list_in c.self.inside.rows.items l).owned = ap length owned in omega (arith, c.give_all.ensures.count, c.give_all-2.ensures.count) in
     let nobody : Unreached c.self.inside.out.items c.self.inside.cleared = subst (λ (p : Plain). Unreached p.out p.cleared) (sym c.self.view_is) c.requires.nobody in
-    let given : (q : ℕ) → IsFree c.give_all-2.new.pool q → IsFree c.self.inside.pool q ⊎ ((w : Bool) × (i : ℕ) × (chunk_at c.self.inside.rows.items w l i ≡ Some q)) = λ q free.
-    elim (c.give_all-2.ensures.given q free) [
-      | inl mid ↦ elim (c.give_all.ensures.given q mid) [
+    let given : (q : ℕ) → IsFree c.give_all-2.new.self q → IsFree c.self.inside.pool q ⊎ ((w : Bool) × (i : ℕ) × (chunk_at c.self.inside.rows.items w l i ≡ Some q)) = λ q free.
+    elim (given_free _ _ _ c.give_all-2.ensures.after q free) [
+      | inl mid ↦ elim (given_free _ _ _ c.give_all.ensures.after q mid) [
         | inl before ↦ inl before
         | inr back ↦ inr (false, back.0, claimed_at back.0 q back.1)
       ]
       | inr back ↦ inr (true, back.0, owned_at back.0 q back.1)
     ] in
     record {
-      homed = subst (λ (b : PlainList). AreHomed (set c.self.inside.rows.items l b) c.self.inside.homes.items c.give_all-2.new.pool) (sym e)
-          (homed-emptied c.self.inside.rows.items c.self.inside.homes.items c.self.inside.pool c.give_all-2.new.pool l c.self.invariant.homed low size given);
-      summed = subst (λ (b : PlainList). AreSummed (set c.self.inside.rows.items l b) c.give_all-2.new.pool (c.self.inside.held - (length c.claimed-2.result.now + length c.owned-2.result.now)) (length c.self.inside.order.items)) (sym e)
-          (subst (λ n. AreSummed (set c.self.inside.rows.items l (emptied_list (list_in c.self.inside.rows.items l))) c.give_all-2.new.pool (c.self.inside.held - n) (length c.self.inside.order.items)) (sym count)
-          (summed-emptied c.self.inside.rows.items c.self.inside.pool c.give_all-2.new.pool c.self.inside.held (length c.self.inside.order.items) l c.self.invariant.summed low (ap is_shut phase) size more));
+      homed = subst (λ (b : PlainList). AreHomed (set c.self.inside.rows.items l b) c.self.inside.homes.items c.give_all-2.new.self) (sym e)
+          (homed-emptied c.self.inside.rows.items c.self.inside.homes.items c.self.inside.pool c.give_all-2.new.self l c.self.invariant.homed low size given);
+      summed = subst (λ (b : PlainList). AreSummed (set c.self.inside.rows.items l b) c.give_all-2.new.self (c.self.inside.held - (length c.claimed-2.result.now + length c.owned-2.result.now)) (length c.self.inside.order.items)) (sym e)
+          (subst (λ n. AreSummed (set c.self.inside.rows.items l (emptied_list (list_in c.self.inside.rows.items l))) c.give_all-2.new.self (c.self.inside.held - n) (length c.self.inside.order.items)) (sym count)
+          (summed-emptied c.self.inside.rows.items c.self.inside.pool c.give_all-2.new.self c.self.inside.held (length c.self.inside.order.items) l c.self.invariant.summed low (ap is_shut phase) size more));
       ordered = ordered-cleared (set c.self.inside.rows.items l c.empty.new.self) c.self.inside.order.items c.self.inside.cleared c.self.inside.out.items c.self.inside.seats
           (ordered-set c.self.inside.rows.items c.self.inside.order.items c.self.inside.cleared c.self.inside.out.items c.self.inside.seats l c.empty.new.self c.self.invariant.ordered low (λ shut_now. ap (λ (q : PlainList). q.phase) e ∙ shut_now))
           some nobody;
@@ -231,11 +232,11 @@ returns-clause-cleared c =
     let first : length c.claimed-2.result.now ≡ length (list_in c.self.inside.rows.items l).claimed = ap length (c.claimed-2.ensures ∙ ap (λ (q : PlainList). q.claimed) is) in
     let second : length c.owned-2.result.now ≡ length (list_in c.self.inside.rows.items l).owned = ap length (c.owned-2.ensures ∙ ap (λ (q : PlainList). q.owned) is) in omega arith in
     let e : c.empty.new.self ≡ emptied_list (list_in c.self.inside.rows.items l) = c.empty.ensures ∙ ap emptied_list is in
-    let size : c.give_all-2.new.pool.size ≡ c.self.inside.pool.size = c.give_all-2.ensures.size ∙ c.give_all.ensures.size in
-    let more : set_of.len c.give_all-2.new.pool.free ≡ set_of.len c.self.inside.pool.free + chunk_count (list_in c.self.inside.rows.items l) =
+    let size : c.give_all-2.new.self.size ≡ c.self.inside.pool.size = given_size _ _ _ c.give_all-2.ensures.after ∙ given_size _ _ _ c.give_all.ensures.after in
+    let more : set_of.len c.give_all-2.new.self.free ≡ set_of.len c.self.inside.pool.free + chunk_count (list_in c.self.inside.rows.items l) =
     let first : length c.claimed.result.now ≡ length (list_in c.self.inside.rows.items l).claimed = ap length claimed in
     let second : length c.owned.result.now ≡ length (list_in c.self.inside.rows.items l).owned = ap length owned in omega (arith, c.give_all.ensures.count, c.give_all-2.ensures.count) in
-    cleared_view (plain_of c.self.inside) l (set_of.len c.give_all-2.new.pool.free) (c.self.inside.cleared + 1) c.give_all-2.new.pool.size c.empty.new.self l_is e more (add-one c.self.inside.cleared) size ∙ ap next_cleared c.self.view_is
+    cleared_view (plain_of c.self.inside) l (set_of.len c.give_all-2.new.self.free) (c.self.inside.cleared + 1) c.give_all-2.new.self.size c.empty.new.self l_is e more (add-one c.self.inside.cleared) size ∙ ap next_cleared c.self.view_is
 
 pub returns-clause-shut : goal.returns-clause-shut
 returns-clause-shut c =

@@ -1,27 +1,29 @@
 use Rattle.std.specs.List.{Contains}
-use Rattle.std.proofs.Common.{◌≡◌, ℕ, ◌<◌, List, length, take, true, false, sym, subst, ◌∙◌}
-use Rattle.list_words.specs.Store.{Unreached}
-use Rattle.list_words.proofs.ReclaimLaws.{IsClearing, cleared_all, clearing_more, clearing_none}
+use Rattle.std.proofs.Common.{◌≡◌, ℕ, ◌<◌, List, length, take, true, false, ap, sym, subst, ◌∙◌}
+use Rattle.list_words.specs.Store.{Store, Unreached}
+use Rattle.list_words.specs.Plain.{store_of}
+use Rattle.list_words.proofs.ClearLaws.{cleared_all}
+use Rattle.list_words.proofs.ReclaimLaws.{IsClearingOf, clearing_next, clearing_start}
 use Rattle.list_words.proofs.plain_lists.PlainListsLeafLists.reclaim.Goals as goal
 
 pub loop-self-init : goal.loop-self-init
-loop-self-init c = clearing_none _
+loop-self-init c = clearing_start _
 
 pub loop-self-preserved : goal.loop-self-preserved
 loop-self-preserved c =
     let may : (c.loop-self.self.cleared < length c.loop-self.self.order) × Unreached c.loop-self.self.out c.loop-self.self.cleared = c.may_clear.ensures.may.0 c.loop-self-test.true in
-    subst (λ q. IsClearing c.args.self.now q) (sym c.clear_next.ensures.cleared) (clearing_more c.args.self.now c.loop-self.self c.loop-self.invariant may.0 may.1 c.clear_next.ensures.shut)
+    subst (λ q. IsClearingOf c.args.self.now q) (sym c.clear_next.ensures.cleared) (clearing_next c.args.self.now c.loop-self.self c.loop-self.invariant may.0 may.1 c.clear_next.ensures.shut)
 
 pub returns-clause-store : goal.returns-clause-store
-returns-clause-store c = cleared_all c.args.self.now c.loop-self.self c.loop-self.invariant c.may_clear.ensures.begun (λ may. absurd (differ (sym c.loop-self-test.false ∙ c.may_clear.ensures.may.1 may)))
+returns-clause-store c = cleared_all (store_of c.args.self.now) (store_of c.loop-self.self) c.loop-self.invariant.stores c.may_clear.ensures.begun (λ may. absurd (differ (sym c.loop-self-test.false ∙ c.may_clear.ensures.may.1 may)))
   where
     differ : false ≡ true → ⊥
     differ e = cc
 
 pub returns-clause-known : goal.returns-clause-known
 returns-clause-known c = λ l x uncleared known.
-    c.loop-self.invariant.known l x (λ inside. uncleared (subst (λ (xs : List ℕ). Contains (take c.loop-self.self.cleared xs) l) (sym c.loop-self.invariant.order_is) inside)) known
+    c.loop-self.invariant.known l x (λ inside. uncleared (subst (λ (xs : List ℕ). Contains (take c.loop-self.self.cleared xs) l) (sym (ap (λ (s : Store). s.order) c.loop-self.invariant.stores.rest)) inside)) known
 
 pub returns-clause-stays : goal.returns-clause-stays
 returns-clause-stays c = λ l uncleared.
-    c.loop-self.invariant.stays l (λ inside. uncleared (subst (λ (xs : List ℕ). Contains (take c.loop-self.self.cleared xs) l) (sym c.loop-self.invariant.order_is) inside))
+    c.loop-self.invariant.stays l (λ inside. uncleared (subst (λ (xs : List ℕ). Contains (take c.loop-self.self.cleared xs) l) (sym (ap (λ (s : Store). s.order) c.loop-self.invariant.stores.rest)) inside))

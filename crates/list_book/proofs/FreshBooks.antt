@@ -2,8 +2,10 @@
 use Rattle.std.proofs.Common.{◌≡◌, ℕ, zero, suc, false, List, [], ◌∷◌, map, Some, ap, refl, sym, subst, ◌∙◌}
 use Rattle.std.specs.Prelude.{replicate}
 use Rattle.std.specs.List.{slice_get}
+use Rattle.std.proofs.lemmas.Bool.{lt-ltb}
 use Rattle.std.proofs.lemmas.List.{length-replicate}
 use Rattle.chunk_pool.specs.Numbers.{all_free}
+use Rattle.chunk_pool.proofs.HeapLaws.{contains_all_below}
 use Rattle.list_words.specs.PlainRows.{PlainList, no_list}
 use Rattle.list_words.specs.PlainKept.{AreHomed, AreSummed, home_of}
 use Rattle.list_words.proofs.FreshLaws.{homed-fresh, ordered-fresh, summed-fresh}
@@ -39,6 +41,7 @@ sound-fresh lists chunks = record {
   summed = subst (λ (ls : List PlainList). AreSummed ls (all_free chunks) 0 0) (sym (bare-fresh lists)) (summed-fresh lists chunks);
   ordered = ordered-fresh (map bare_list (replicate lists fresh_row));
   listed = listed-fresh lists;
+  unused = λ c small none. contains_all_below chunks c ∙ lt-ltb c chunks small;
 }
 
 pub rows_sized : (n l : ℕ) → IsSized (row_at (replicate n fresh_row) l)

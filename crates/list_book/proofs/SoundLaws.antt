@@ -1,11 +1,13 @@
 -- What a change of one list, of the order or of the counts does to what a book keeps.
-use Rattle.std.proofs.Common.{◌≡◌, ℕ, ◌+◌, ◌-◌, ◌<◌, ◌⊎◌, inl, inr, Bool, true, false, not, List, [], ◌∷◌, ◌++◌, length, map, set, get_or, Some, ap, refl, sym, subst, ◌∙◌, arith}
-use Rattle.std.specs.List.{slice_get, sum}
+use Rattle.std.proofs.Common.{◌≡◌, ◌≢◌, ◌&&◌, ℕ, ◌+◌, ◌-◌, ◌<◌, ◌⊎◌, inl, inr, Bool, true, false, not, List, [], ◌∷◌, ◌++◌, length, map, set, get_or, Some, ap, refl, sym, subst, ◌∙◌, arith}
+use Rattle.std.specs.List.{Contains, slice_get, sum}
 use Rattle.std.specs.FinSet as set_of
-use Rattle.std.proofs.lemmas.Bool.{cases_lt}
+use Rattle.std.proofs.lemmas.Bool.{cases_eq, cases_lt, ne_eqb}
 use Rattle.std.proofs.lemmas.Option.{slice_get_within}
 use Rattle.std.proofs.lemmas.List.{length-append, length-map, set_past}
+use Rattle.std.proofs.lemmas.List.Elements.{Contains-append_cases, Contains-append_left, Contains-append_right, Contains-push}
 use Rattle.chunk_pool.specs.Numbers.{Numbers, IsFree, without}
+use Rattle.chunk_pool.proofs.Sets.{contains_removed}
 use Rattle.list_machine.specs.declared.views.Grant.{Grant}
 use Rattle.list_words.specs.Store.{Unreached, counted_off, is_shut}
 use Rattle.list_words.specs.PlainRows.{PlainList, emptied_list}
@@ -17,24 +19,58 @@ use Rattle.list_words.proofs.ChunkLaws.{homed-emptied, homed-more, summed-emptie
 use Rattle.list_words.proofs.PlainLaws.{homed-set, ordered-set}
 use Rattle.list_words.proofs.SeatLaws.{counted_here, ordered-cleared, ordered-counted_off, ordered-shut}
 use Rattle.list_words.proofs.StoreLaws.{SameShape, homed-same, ordered-same, summed-same}
-use Rattle.list_book.specs.Books.{BookRow, IsOrderOfShut, chunk_in, emptied_row, granted_row, granted_rows, row_at, row_chain, row_count, shut_row}
+use Rattle.list_book.specs.Books.{BookRow, IsNowhere, IsOrderOfShut, chunk_in, emptied_row, granted_row, granted_rows, row_at, row_chain, row_chunks, row_count, shut_row}
 use Rattle.list_book.specs.BookKept.{IsSound, bare_list}
 use Rattle.list_book.proofs.OrderLaws.{listed-cleared, listed-open, listed-set, listed-shut}
-use Rattle.list_book.proofs.RowLaws.{bare-row, bare-set, open_is_not_shut, open_low, shut_is_not_fresh, begun_low}
+use Rattle.list_book.proofs.RowLaws.{bare-row, bare-set, begun_low, open_is_not_shut, open_low, put_here, put_other, shut_is_not_fresh}
 
 bare_low : (rows : List BookRow) (l : ℕ) → l < length rows → l < length (map bare_list rows)
 bare_low rows l low = let long : length (map bare_list rows) ≡ length rows = length-map rows bare_list in omega arith
 
+-- ---- chunks that stand nowhere
+
+-- a chunk that stands nowhere after a row was replaced by one with its chunks stood nowhere before
+nowhere_before : (rows : List BookRow) (l : ℕ) (b : BookRow) (c : ℕ) → l < length rows → (Contains (row_chunks (row_at rows l)) c → Contains (row_chunks b) c) → IsNowhere (set rows l b) c → IsNowhere rows c
+nowhere_before rows l b c low still none = λ m inside. elim (cases_eq m l) [
+  | inl here ↦ none m (put_here (λ (r : BookRow). Contains (row_chunks r) c) rows l m b low here (still (subst (λ k. Contains (row_chunks (row_at rows k)) c) here inside)))
+  | inr other ↦ none m (put_other (λ (r : BookRow). Contains (row_chunks r) c) rows l m b other inside)
+]
+
+same_chunks : (b q : BookRow) (c : ℕ) → b.claimed ≡ q.claimed → b.owned ≡ q.owned → Contains (row_chunks q) c → Contains (row_chunks b) c
+same_chunks b q c claimed owned inside = subst (λ (cs : List ℕ). Contains cs c) (sym (ap (λ (cs : List ℕ). cs ++ b.owned) claimed ∙ ap (λ (cs : List ℕ). q.claimed ++ cs) owned)) inside
+
+more_chunks : (owned : Bool) (b q : BookRow) (c k : ℕ) → row_chain owned b ≡ row_chain owned q ++ c ∷ [] → row_chain (not owned) b ≡ row_chain (not owned) q → Contains (row_chunks q) k → Contains (row_chunks b) k
+more_chunks true b q c k more rest inside =
+    let parts : row_chunks b ≡ q.claimed ++ (q.owned ++ c ∷ []) = ap (λ (cs : List ℕ). cs ++ b.owned) rest ∙ ap (λ (cs : List ℕ). q.claimed ++ cs) more in
+    subst (λ (cs : List ℕ). Contains cs k) (sym parts) (elim (Contains-append_cases q.claimed q.owned k inside) [
+      | inl first ↦ Contains-append_left q.claimed (q.owned ++ c ∷ []) k first
+      | inr second ↦ Contains-append_right q.claimed (q.owned ++ c ∷ []) k (Contains-append_left q.owned (c ∷ []) k second)
+    ])
+more_chunks false b q c k more rest inside =
+    let parts : row_chunks b ≡ (q.claimed ++ c ∷ []) ++ q.owned = ap (λ (cs : List ℕ). cs ++ b.owned) more ∙ ap (λ (cs : List ℕ). (q.claimed ++ c ∷ []) ++ cs) rest in
+    subst (λ (cs : List ℕ). Contains cs k) (sym parts) (elim (Contains-append_cases q.claimed q.owned k inside) [
+      | inl first ↦ Contains-append_left (q.claimed ++ c ∷ []) q.owned k (Contains-append_left q.claimed (c ∷ []) k first)
+      | inr second ↦ Contains-append_right (q.claimed ++ c ∷ []) q.owned k second
+    ])
+
+new_chunk : (owned : Bool) (b q : BookRow) (c : ℕ) → row_chain owned b ≡ row_chain owned q ++ c ∷ [] → Contains (row_chunks b) c
+new_chunk true b q c more = Contains-append_right b.claimed b.owned c (subst (λ (cs : List ℕ). Contains cs c) (sym more) (Contains-push q.owned c))
+new_chunk false b q c more = Contains-append_left b.claimed b.owned c (subst (λ (cs : List ℕ). Contains cs c) (sym more) (Contains-push q.claimed c))
+
+free_still : (pool : Numbers) (c k : ℕ) → k ≢ c → IsFree pool k → IsFree (without pool c) k
+free_still pool c k other free = contains_removed pool.free c k ∙ ap (λ b. not b && set_of.contains pool.free k) (ne_eqb k c other) ∙ free
+
 -- what is kept after the row of a list was replaced, from its parts
 sound_set : (rows : List BookRow) (l : ℕ) (b : BookRow) (homes : List Home) (pool : Numbers) (held : ℕ) (order : List ℕ) (cleared : ℕ) (out : List ℕ) (seats : ℕ) → AreHomed (set (map bare_list rows) l (bare_list b)) homes pool
     → AreSummed (set (map bare_list rows) l (bare_list b)) pool held (length order) → AreOrdered (set (map bare_list rows) l (bare_list b)) order cleared out seats → IsOrderOfShut (set rows l b) order cleared
-    → IsSound (set rows l b) pool held order cleared out seats
-sound_set rows l b homes pool held order cleared out seats homed summed ordered listed = record {
+    → ((c : ℕ) → c < pool.size → IsNowhere (set rows l b) c → IsFree pool c) → IsSound (set rows l b) pool held order cleared out seats
+sound_set rows l b homes pool held order cleared out seats homed summed ordered listed unused = record {
   homes = homes;
   homed = subst (λ (ls : List PlainList). AreHomed ls homes pool) (sym (bare-set rows l b)) homed;
   summed = subst (λ (ls : List PlainList). AreSummed ls pool held (length order)) (sym (bare-set rows l b)) summed;
   ordered = subst (λ (ls : List PlainList). AreOrdered ls order cleared out seats) (sym (bare-set rows l b)) ordered;
   listed = listed;
+  unused = unused;
 }
 
 -- ---- a list with the same chunks and the same phase
@@ -62,6 +98,7 @@ sound-same rows pool held order cleared out seats l b kept low same =
     (summed-same lists pool held (length order) l (bare_list b) kept.summed within shape)
     (ordered-same lists order cleared out seats l (bare_list b) kept.ordered within shape)
     (listed-set rows order cleared l b kept.listed low (λ shut_now. sym same.phase ∙ shut_now) (λ shut_now. same.phase ∙ shut_now) (λ shut_now none. (same.claimed ∙ none.0, same.owned ∙ none.1)))
+    (λ c small none. kept.unused c small (nowhere_before rows l b c low (same_chunks b (row_at rows l) c same.claimed same.owned) none))
 
 -- a list that was never opened is opened
 pub sound-opened : (rows : List BookRow) (pool : Numbers) (held : ℕ) (order : List ℕ) (cleared : ℕ) (out : List ℕ) (seats l : ℕ) (b : BookRow) → IsSound rows pool held order cleared out seats → l < length rows
@@ -76,6 +113,7 @@ sound-opened rows pool held order cleared out seats l b kept low fresh takes cla
     (summed-same lists pool held (length order) l (bare_list b) kept.summed within shape)
     (ordered-same lists order cleared out seats l (bare_list b) kept.ordered within shape)
     (listed-set rows order cleared l b kept.listed low (λ shut_now. absurd (open_is_not_shut b takes shut_now)) (λ shut_now. absurd (shut_is_not_fresh q shut_now fresh)) (λ shut_now. absurd (shut_is_not_fresh q shut_now fresh)))
+    (λ c small none. kept.unused c small (nowhere_before rows l b c low (same_chunks b q c claimed owned) none))
   where
     chains : (b q : BookRow) → b.claimed ≡ q.claimed → b.owned ≡ q.owned → (owned : Bool) → chain owned (bare_list b) ≡ chain owned (bare_list q)
     chains b q claimed owned true = owned
@@ -103,6 +141,9 @@ sound-more rows pool held order cleared out seats l c b owned kept free small wa
     (summed-more lists pool held (length order) l c (bare_list b) kept.summed within free one (ap is_shut takes) (ap is_shut opened))
     (ordered-set lists order cleared out seats l (bare_list b) kept.ordered within (λ shut_now. absurd (open_is_not_shut (row_at rows l) was (sym (ap (λ (q : PlainList). q.phase) is) ∙ shut_now))))
     (listed-open rows order cleared l b kept.listed was takes)
+    (λ k small none.
+    let before : IsFree pool k = kept.unused k small (nowhere_before rows l b k low (more_chunks owned b (row_at rows l) c k more rest) none) in
+    free_still pool c k (λ same. none l (put_here (λ (r : BookRow). Contains (row_chunks r) k) rows l l b low refl (subst (Contains (row_chunks b)) (sym same) (new_chunk owned b (row_at rows l) c more)))) before)
 
 -- ---- a list is shut
 
@@ -124,6 +165,7 @@ sound-shut rows pool held order cleared out seats l b kept was shut_is =
     (summed-shut lists pool held (length order) l (bare_list b) kept.summed within count (ap is_shut shut_now) (ap is_shut opened))))
     (ordered-shut lists order cleared out seats l (bare_list b) kept.ordered within shut_now)
     (listed-shut rows order cleared l b kept.listed kept.ordered.begun was shut_now)
+    (λ c small none. kept.unused c small (nowhere_before rows l b c low (same_chunks b (row_at rows l) c (ap (λ (r : BookRow). r.claimed) shut_is) (ap (λ (r : BookRow). r.owned) shut_is)) none))
 
 -- ---- the next list of the order is cleared
 
@@ -133,8 +175,9 @@ next_low rows order cleared l listed next = begun_low rows l (shut_is_not_fresh 
 
 pub sound-cleared : (rows : List BookRow) (pool after : Numbers) (held : ℕ) (order : List ℕ) (cleared : ℕ) (out : List ℕ) (seats l : ℕ) → IsSound rows pool held order cleared out seats → slice_get order cleared ≡ Some l
     → Unreached out cleared → after.size ≡ pool.size → set_of.len after.free ≡ set_of.len pool.free + row_count (row_at rows l)
-    → ((q : ℕ) → IsFree after q → IsFree pool q ⊎ ((w : Bool) × (i : ℕ) × (chunk_in rows w l i ≡ Some q))) → IsSound (set rows l (emptied_row (row_at rows l))) after (held - row_count (row_at rows l)) order (cleared + 1) out seats
-sound-cleared rows pool after held order cleared out seats l kept next nobody size more given =
+    → ((q : ℕ) → IsFree after q → IsFree pool q ⊎ ((w : Bool) × (i : ℕ) × (chunk_in rows w l i ≡ Some q))) → ((q : ℕ) → IsFree after q ⊎ ((IsFree pool q → ⊥) × (Contains (row_chunks (row_at rows l)) q → ⊥)))
+    → IsSound (set rows l (emptied_row (row_at rows l))) after (held - row_count (row_at rows l)) order (cleared + 1) out seats
+sound-cleared rows pool after held order cleared out seats l kept next nobody size more given lost =
     let lists : List PlainList = map bare_list rows in
     let is : list_in lists l ≡ bare_list (row_at rows l) = bare-row rows l in
     let b : BookRow = emptied_row (row_at rows l) in
@@ -156,6 +199,13 @@ sound-cleared rows pool after held order cleared out seats l kept next nobody si
     (summed-emptied lists pool after held (length order) l kept.summed within (ap is_shut shut_there) size (more ∙ ap (λ n. set_of.len pool.free + n) (sym count)))))
     (ordered-cleared (set lists l (bare_list b)) order cleared out seats (ordered-set lists order cleared out seats l (bare_list b) kept.ordered within (λ shut_now. was)) some nobody)
     (listed-cleared rows order cleared l b kept.listed low next was (refl, refl))
+    (λ q small none. elim (lost q) [
+      | inl free ↦ free
+      | inr gone ↦ absurd (gone.0 (kept.unused q (subst (λ n. q < n) size small) (λ m inside. elim (cases_eq m l) [
+        | inl here ↦ gone.1 (subst (λ k. Contains (row_chunks (row_at rows k)) q) here inside)
+        | inr other ↦ none m (put_other (λ (r : BookRow). Contains (row_chunks r) q) rows l m b other inside)
+      ])))
+    ])
 
 -- ---- seats
 
@@ -167,6 +217,7 @@ sound-seat rows pool held order cleared out seats b v kept place value = record 
   summed = kept.summed;
   ordered = counted_here (map bare_list rows) order cleared out seats b v kept.ordered place value;
   listed = kept.listed;
+  unused = kept.unused;
 }
 
 pub sound-seat_off : (rows : List BookRow) (pool : Numbers) (held : ℕ) (order : List ℕ) (cleared : ℕ) (out : List ℕ) (seats b n : ℕ) → IsSound rows pool held order cleared out seats → n ≡ sum (counted_off out b)
@@ -177,6 +228,7 @@ sound-seat_off rows pool held order cleared out seats b n kept is = record {
   summed = kept.summed;
   ordered = ordered-counted_off (map bare_list rows) order cleared out seats b n kept.ordered is;
   listed = kept.listed;
+  unused = kept.unused;
 }
 
 -- ---- grants

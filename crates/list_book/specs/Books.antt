@@ -64,9 +64,13 @@ chunk_in rows owned l place = slice_get (row_chain owned (row_at rows l)) place
 abbrev pub row_chunks : BookRow → List ℕ
 row_chunks r = r.claimed ++ r.owned
 
+-- a chunk stands in the chains of no row
+abbrev pub IsNowhere : List BookRow → ℕ → Type 0
+IsNowhere rows c = (l : ℕ) → Contains (row_chunks (row_at rows l)) c → ⊥
+
 -- a chunk stands in the chains of no list
 abbrev pub IsInNoRow : BookValue → ℕ → Type 0
-IsInNoRow b c = (l : ℕ) → Contains (row_chunks (book_row b l)) c → ⊥
+IsInNoRow b c = IsNowhere b.rows c
 
 -- how many chunks a list has in both chains
 abbrev pub row_count : BookRow → ℕ

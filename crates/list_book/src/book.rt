@@ -2,7 +2,6 @@ ghost use Rattle.std.specs.Prelude.{◌≡◌, ◌≢◌, ℕ, suc, ◌+◌, ◌
 ghost use Rattle.list_machine.specs.declared.views.Grant.{Grant};
 ghost use Rattle.list_words.specs.Filing.{granted_in_all};
 ghost use Rattle.list_words.specs.PlainGrants.{MayGrant};
-ghost use Rattle.list_words.specs.Store.{counted_off};
 ghost use Rattle.list_words.specs.declared.leaf_lists.Phase.TheVariants.{Fresh};
 ghost use Rattle.list_book.specs.BookKept.{bare_list};
 ghost use Rattle.list_book.specs.Books.{IsInNoRow, IsSized, MayClearNext, MayGrantAll, TakesItems, book_held, book_row, fresh_book, fresh_row, granted_rows, lengthened_row, linked_row, next_in_order, opened_row, roomier_row, row_at, used_row, with_book_row, with_grants, with_next_cleared, with_seat, with_shut_list, with_taken_chunk, without_seat};
@@ -164,6 +163,7 @@ impl Book {
         requires free { 0 < self.old.free }
         ensures below { result < self.old.chunks }
         ensures unused { IsInNoRow self.old result }
+        ensures least { (c : ℕ) → c < self.old.chunks → IsInNoRow self.old c → result ≤ c }
         ensures book { self.new ≡ with_taken_chunk self.old list (linked_row (book_row self.old list) result) }
     {
         let Some(chunk) = self.pool.take() else {
@@ -181,6 +181,7 @@ impl Book {
         requires free { 0 < self.old.free }
         ensures below { result < self.old.chunks }
         ensures unused { IsInNoRow self.old result }
+        ensures least { (c : ℕ) → c < self.old.chunks → IsInNoRow self.old c → result ≤ c }
         ensures book { self.new ≡ with_taken_chunk self.old list (lengthened_row (book_row self.old list) result) }
     {
         let Some(chunk) = self.pool.take() else {

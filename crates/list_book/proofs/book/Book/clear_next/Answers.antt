@@ -1,12 +1,12 @@
-use Rattle.std.proofs.Common.{◌≡◌, ℕ, ◌+◌, ◌-◌, ◌<◌, ◌⊎◌, inl, inr, Bool, true, false, length, set, Some, add-one, ap, sym, subst, ◌∙◌, arith}
-use Rattle.std.specs.List.{slice_get}
+use Rattle.std.proofs.Common.{◌≡◌, ℕ, ◌+◌, ◌-◌, ◌<◌, ◌⊎◌, inl, inr, Bool, true, false, List, ◌++◌, length, set, Some, add-one, ap, sym, subst, ◌∙◌, arith}
+use Rattle.std.specs.List.{Contains, slice_get}
 use Rattle.std.specs.FinSet as set_of
 use Rattle.std.proofs.lemmas.Grind.{get_or_default_zero}
 use Rattle.chunk_pool.specs.Numbers.{IsFree}
-use Rattle.chunk_pool.proofs.GiveLaws.{given_free, given_size}
+use Rattle.chunk_pool.proofs.GiveLaws.{given_free, given_size, given_twice}
 use Rattle.list_words.specs.Store.{Unreached}
 use Rattle.list_words.proofs.ChunkLaws.{SamePlace}
-use Rattle.list_book.specs.Books.{BookRow, BookValue, IsSized, chunk_in, emptied_row, row_at, row_count, with_next_cleared}
+use Rattle.list_book.specs.Books.{BookRow, BookValue, IsSized, chunk_in, emptied_row, row_at, row_chunks, row_count, with_next_cleared}
 use Rattle.list_book.specs.BookKept.{IsSound, book_of}
 use Rattle.list_book.proofs.PlaceLaws.{IsNext, chunk_below, chunk_place, chunk_taken, cleared_view, count_few, held_part, in_chain, is_next, order_few}
 use Rattle.list_book.proofs.RowLaws.{row_is, sized-emptied, sized-set}
@@ -149,10 +149,14 @@ invariant_of-self c =
       ]
       | inr back ↦ inr (true, back.0, owned_at back.0 q back.1)
     ] in
+    let chunks : c.claimed.result.now ++ c.owned.result.now ≡ row_chunks (row_at c.self.inside.rows.items l) =
+    ap (λ (cs : List ℕ). cs ++ c.owned.result.now) (c.claimed.ensures ∙ ap (λ (r : BookRow). r.claimed) is) ∙ ap (λ (cs : List ℕ). (row_at c.self.inside.rows.items l).claimed ++ cs) (c.owned.ensures ∙ ap (λ (r : BookRow). r.owned) is) in
+    let lost : (q : ℕ) → IsFree c.give_all-2.new.self q ⊎ ((IsFree c.self.inside.pool q → ⊥) × (Contains (row_chunks (row_at c.self.inside.rows.items l)) q → ⊥)) = λ q.
+    subst (λ (cs : List ℕ). IsFree c.give_all-2.new.self q ⊎ ((IsFree c.self.inside.pool q → ⊥) × (Contains cs q → ⊥))) chunks (given_twice _ _ _ _ _ c.give_all.ensures.after c.give_all-2.ensures.after q) in
     record {
       sound = subst (λ (b : BookRow). IsSound (set c.self.inside.rows.items l b) c.give_all-2.new.self (c.self.inside.held - (length c.claimed-2.result.now + length c.owned-2.result.now)) c.self.inside.order.items (c.self.inside.cleared + 1) c.self.inside.out.items c.self.inside.seats) (sym e)
           (subst (λ m. IsSound (set c.self.inside.rows.items l (emptied_row (row_at c.self.inside.rows.items l))) c.give_all-2.new.self (c.self.inside.held - m) c.self.inside.order.items (c.self.inside.cleared + 1) c.self.inside.out.items c.self.inside.seats) count
-          (sound-cleared c.self.inside.rows.items c.self.inside.pool c.give_all-2.new.self c.self.inside.held c.self.inside.order.items c.self.inside.cleared c.self.inside.out.items c.self.inside.seats l c.self.invariant.sound n.next nobody size more given));
+          (sound-cleared c.self.inside.rows.items c.self.inside.pool c.give_all-2.new.self c.self.inside.held c.self.inside.order.items c.self.inside.cleared c.self.inside.out.items c.self.inside.seats l c.self.invariant.sound n.next nobody size more given lost));
       sized = sized-set c.self.inside.rows.items l c.empty.new.self c.self.invariant.sized n.low (subst IsSized (sym e) (sized-emptied (row_at c.self.inside.rows.items l) n.was));
       order_room = c.self.invariant.order_room;
       out_room = c.self.invariant.out_room;

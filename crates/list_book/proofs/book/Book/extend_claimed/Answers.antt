@@ -1,4 +1,4 @@
-use Rattle.std.proofs.Common.{◌≡◌, ◌+◌, ◌<◌, true, false, length, set, ap, sym, subst, ◌∙◌, arith}
+use Rattle.std.proofs.Common.{◌≡◌, ℕ, ◌+◌, ◌<◌, ◌≤◌, true, false, length, set, ap, sym, subst, ◌∙◌, arith}
 use Rattle.std.specs.FinSet as set_of
 use Rattle.chunk_pool.specs.Numbers.{Numbers}
 use Rattle.list_words.specs.declared.leaf_lists.Phase.TheVariants.{Open}
@@ -33,6 +33,10 @@ pub returns-clause-unused : goal.returns-clause-unused
 returns-clause-unused c =
     subst (λ (b : BookValue). IsInNoRow b c.in-Some.chunk) c.self.view_is
     (free_nowhere c.self.inside.rows.items c.self.inside.pool c.self.inside.held c.self.inside.order.items c.self.inside.cleared c.self.inside.out.items c.self.inside.seats c.in-Some.chunk c.self.invariant.sound c.in-Some.ensures.least.free)
+
+pub returns-clause-least : goal.returns-clause-least
+returns-clause-least c =
+    subst (λ (b : BookValue). (k : ℕ) → k < b.chunks → IsInNoRow b k → c.in-Some.chunk ≤ k) c.self.view_is (λ k small none. c.in-Some.ensures.least.least k (c.self.invariant.sound.unused k small none))
 
 pub returns-clause-book : goal.returns-clause-book
 returns-clause-book c =

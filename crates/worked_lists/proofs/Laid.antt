@@ -1,11 +1,11 @@
 -- What lists are that are laid out alike.
-use Rattle.std.proofs.Common.{◌≡◌, ℕ, ◌<◌, List, length, sum, sym, ap, ◌∙◌, subst, arith}
+use Rattle.std.proofs.Common.{◌≡◌, ℕ, ◌<◌, ◌≤◌, List, length, sum, sym, ap, ◌∙◌, subst, arith}
 use Rattle.list_words.specs.Store.{Store, one_more, seats_out}
 use Rattle.worked_lists.specs.Layouts.{ArePlots, IsLaidOut}
 
 module _ (s : Store) (lists chunks granted seats : ℕ) (laid : IsLaidOut s lists chunks granted seats) where
   -- few are out
-  pub few_seats : seats < 65536 → seats_out s < 18446744073709551615
+  pub few_seats : seats ≤ 65536 → seats_out s < 18446744073709551615
   few_seats few = subst (λ (out : List ℕ). sum out < 18446744073709551615) (sym laid.out) (omega (arith, few))
 
   -- a reader more changes no list

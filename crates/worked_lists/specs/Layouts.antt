@@ -1,10 +1,9 @@
 -- Lists that are laid out alike.
-use Rattle.std.specs.Prelude.{◌≡◌, ◌≢◌, ℕ, suc, ◌+◌, ◌*◌, ◌<◌, ◌≤◌, List, [], ◌∷◌, length, map}
+use Rattle.std.specs.Prelude.{◌≡◌, ◌≢◌, ℕ, ◌+◌, ◌*◌, ◌<◌, ◌≤◌, List, [], ◌∷◌, length, map}
 use Rattle.std.specs.List.{range_with_len}
 use Rattle.list_machine.specs.declared.views.Grant.{Grant}
-use Rattle.list_words.specs.Store.{Row, Store, no_row, row}
+use Rattle.list_words.specs.Store.{IsShut, Row, Store, row}
 use Rattle.list_words.specs.declared.leaf_lists.Phase.TheVariants.{Open}
-use Rattle.chunk_lists.specs.Knives.{fresh_store}
 
 -- a list that takes items: so many chunks stand in its claimed chain, and none in its owned one
 pub record IsPlot (chunks : ℕ) (r : Row) : Type 0 where
@@ -35,17 +34,11 @@ pub record IsOpenedWith (old new : Store) (list chunks : ℕ) : Type 0 where
   pub free : new.free + chunks ≡ old.free
   pub rest : new ≡ record old { rows = new.rows; free = new.free }
 
--- so many of the lists of a fresh store were opened so, in order
-pub record IsPartlyLaidOut (s : Store) (name : List ℕ) (lists chunks opened : ℕ) : Type 0 where
-  pub lists_are : length s.rows ≡ lists
-  pub plots : (l : ℕ) → l < opened → IsPlot chunks (row s l) × ((row s l).granted ≡ 0)
-  pub unopened : (l : ℕ) → opened ≤ l → row s l ≡ no_row
-  pub free : s.free + opened * chunks ≡ lists * chunks
-  pub rest : s ≡ record (fresh_store name lists (lists * chunks)) { rows = s.rows; free = s.free }
-
--- the first list was swept, and those behind it are as they were
-pub record IsSweptNext (old new : Store) (list chunks : ℕ) : Type 0 where
-  pub plots : ArePlots new (suc list) chunks
+-- the lists from this one on and below that one were shut, and no other list is changed
+pub record AreSwept (old new : Store) (from end : ℕ) : Type 0 where
+  pub shut : (l : ℕ) → from ≤ l → l < end → IsShut new l
+  pub before : (l : ℕ) → l < from → row new l ≡ row old l
+  pub behind : (l : ℕ) → end ≤ l → row new l ≡ row old l
   pub lists_are : length new.rows ≡ length old.rows
   pub name_is : new.name ≡ old.name
 

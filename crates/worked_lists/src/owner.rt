@@ -1,11 +1,11 @@
 //! An owner who sweeps lists while others file in them, and notes where each item was found.
-ghost use Rattle.std.specs.Prelude.{◌≡◌, ℕ, ◌+◌, ◌<◌, ◌≤◌, length, IfOk, IfSome, OnOk};
+ghost use Rattle.std.specs.Prelude.{◌≡◌, ℕ, ◌+◌, ◌<◌, ◌≤◌, false, None, length, replicate, IfOk, IfSome, OnOk};
 ghost use Rattle.list_machine.specs.Words.{decode};
 ghost use Rattle.list_table.specs.GuestMoves.{IsSlotWord};
 ghost use Rattle.list_words.specs.Store.{found_in, one_more, row, seats_out};
 ghost use Rattle.list_filers.specs.Filers.{shared_name};
 ghost use Rattle.chunk_lists.specs.Knives.{lists_of};
-ghost use Rattle.worked_lists.specs.Layouts.{ArePlots, IsSweptNext};
+ghost use Rattle.worked_lists.specs.Layouts.{ArePlots, AreSwept};
 
 use crate::homes::Homes;
 use chunk_lists::{Knife, Lists, Reader};
@@ -35,6 +35,7 @@ impl Owner {
         requires seats { seats_out (lists_of knife) < 18446744073709551615 }
         ensures knife { IfOk result (λ o. lists_of o.knife ≡ one_more (lists_of knife)) }
         ensures reader { IfOk result (λ o. o.reader.name ≡ lists.now.name) }
+        ensures homes { IfOk result (λ o. (o.homes.lists.items ≡ replicate items None) × (o.homes.astray ≡ false)) }
     {
         let _lists = lists;
         let mut knife = knife;
@@ -63,6 +64,7 @@ pub fn sweep_lists(
     requires plots { ArePlots (lists_of owner.knife) from chunks }
     requires chunks { chunks ≤ 1000000 }
     requires reader { owner.reader.name ≡ lists.now.name }
+    ensures swept { IfOk result (λ o. AreSwept (lists_of owner.knife) (lists_of o.knife) from end) }
     ensures plots { IfOk result (λ o. ArePlots (lists_of o.knife) end chunks) }
     ensures lists { IfOk result (λ o. length (lists_of o.knife).rows ≡ length (lists_of owner.knife).rows) }
     ensures name { IfOk result (λ o. (lists_of o.knife).name ≡ (lists_of owner.knife).name) }
@@ -89,6 +91,7 @@ fn sweep_each<L: Ledger>(
     requires chunks { chunks ≤ 1000000 }
     requires reader { owner.old.reader.name ≡ lists.now.name }
     requires blank { (blank.name ≡ L.name) × (blank.parts ≡ L.parts) × (0 < blank.parts) }
+    ensures swept { OnOk result (AreSwept (lists_of owner.old.knife) (lists_of owner.new.knife) from end) }
     ensures plots { OnOk result (ArePlots (lists_of owner.new.knife) end chunks) }
     ensures lists { OnOk result (length (lists_of owner.new.knife).rows ≡ length (lists_of owner.old.knife).rows) }
     ensures name { OnOk result ((lists_of owner.new.knife).name ≡ (lists_of owner.old.knife).name) }
@@ -151,7 +154,7 @@ pub(crate) fn sweep(
     requires list { list < length (lists_of knife.old).rows }
     requires plots { ArePlots (lists_of knife.old) list chunks }
     requires chunks { chunks ≤ 1000000 }
-    ensures swept { OnOk result (IsSweptNext (lists_of knife.old) (lists_of knife.new) list chunks) }
+    ensures swept { OnOk result (AreSwept (lists_of knife.old) (lists_of knife.new) list (list + 1)) }
     ensures found { OnOk result (found.new.items ≡ found_in (row (lists_of knife.new) list)) }
 {
     found.clear();

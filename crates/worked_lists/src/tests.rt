@@ -1,4 +1,5 @@
 mod crowded;
+mod hiring;
 mod lives;
 mod owned;
 mod pair;

@@ -1,11 +1,12 @@
 //! Many filers in threads, while the owner sweeps.
 ghost use Rattle.std.specs.Prelude.{◌≡◌, All, IfOk, length};
 ghost use Rattle.list_filers.specs.Filers.{shared_name};
-ghost use Rattle.chunk_lists.specs.Knives.{lists_of};
+ghost use Rattle.chunk_lists.specs.Knives.{lists_of, seat_of};
 ghost use Rattle.worked_lists.specs.Layouts.{ArePlots};
 
-use crate::{Crew, Homes, Owner, Worker, file_at_once, hire, lay_out, note_standing, sweep_lists};
-use chunk_lists::{Knife, Lists};
+use super::hiring::hired;
+use crate::{Crew, Homes, Owner, Worker, file_at_once, note_standing, sweep_lists};
+use chunk_lists::{Knife, Lists, Reader};
 use list_words::{Answer, Filed, LeafLists};
 use std::alloc::{AllocError, Global};
 use std::sync::Arc;
@@ -118,11 +119,57 @@ fn begin(alloc: Global, seed: u64) -> Result<(Arc<Lists, Global>, Owner, Vec<Wor
     ensures reader { IfOk result (λ r. r.1.reader.name ≡ r.0.value.name) }
     ensures workers { IfOk result (λ r. All (λ w. w.name ≡ shared_name r.0.value) r.2.items) }
 {
-    let (lists, mut knife) = lay_out(alloc, CREW.lists, CHUNKS)?;
-    let workers = hire(alloc, &mut knife, Crew { seed, ..CREW })?;
-    let owner = Owner::new(alloc, &lists, knife, ITEMS)?;
+    let (lists, owner, workers) = hired(alloc, Crew { seed, ..CREW }, CHUNKS, ITEMS)?;
     let owner = sweep_lists(alloc, owner, &lists, 0, EARLY, CHUNKS)?;
     Ok((lists, owner, workers))
+}
+
+/// Takes the reader and the workers' filers back, and clears the lists. Tells how many items came late, how many chunks
+/// are held and free then, and how many seats are out.
+fn give_back(
+    knife: Knife,
+    reader: Reader,
+    workers: Vec<Worker>,
+    filed: &mut Homes,
+) -> (usize, (u32, u32), u64)
+    requires reader { (seat_of reader).name ≡ (lists_of knife).name }
+    requires workers { All (λ w. w.name ≡ (lists_of knife).name) workers.items }
+{
+    let mut knife = knife;
+    knife.unpin(reader);
+    let late = dismiss(&mut knife, workers, filed);
+    knife.reclaim();
+    (late, (knife.held(), knife.free()), knife.seats_out())
+}
+
+/// Notes what stands in the lists that were not swept, and compares all that was found with the answers.
+fn compare(
+    alloc: Global,
+    lists: &Lists,
+    owner: Owner,
+    workers: Vec<Worker>,
+) -> Result<Outcome, AllocError>
+    requires rows { length (lists_of owner.knife).rows ≡ 40 }
+    requires name { (lists_of owner.knife).name ≡ shared_name lists.now }
+    requires reader { owner.reader.name ≡ lists.now.name }
+    requires workers { All (λ w. w.name ≡ shared_name lists.now) workers.items }
+{
+    let mut owner = owner;
+    note_standing(&mut owner, lists, SWEPT, CREW.lists);
+    let Owner {
+        knife,
+        reader,
+        homes: found,
+    } = owner;
+    let mut filed = Homes::new(alloc, ITEMS)?;
+    let (late, chunks, seats) = give_back(knife, reader, workers, &mut filed);
+    Ok(Outcome {
+        agrees: !filed.astray && !found.astray && filed.lists == found.lists,
+        answered: filed.count().saturating_add(late),
+        some_late: late > 0,
+        chunks,
+        seats,
+    })
 }
 
 /// Files all items under a seed, and sweeps half of the lists meanwhile.
@@ -132,24 +179,8 @@ fn file_and_sweep<R: Threads + Sync>(
     seed: u64,
 ) -> Result<Outcome, AllocError> {
     let (lists, owner, workers) = begin(alloc, seed)?;
-    let (mut owner, workers) = sweep_and_file(rt, alloc, &lists, owner, workers)?;
-    note_standing(&mut owner, &lists, SWEPT, CREW.lists);
-    let Owner {
-        mut knife,
-        reader,
-        homes: found,
-    } = owner;
-    knife.unpin(reader);
-    let mut filed = Homes::new(alloc, ITEMS)?;
-    let late = dismiss(&mut knife, workers, &mut filed);
-    knife.reclaim();
-    Ok(Outcome {
-        agrees: !filed.astray && !found.astray && filed.lists == found.lists,
-        answered: filed.count().saturating_add(late),
-        some_late: late > 0,
-        chunks: (knife.held(), knife.free()),
-        seats: knife.seats_out(),
-    })
+    let (owner, workers) = sweep_and_file(rt, alloc, &lists, owner, workers)?;
+    compare(alloc, &lists, owner, workers)
 }
 
 #[test]

@@ -33,7 +33,22 @@ struct Placed {
     found: (usize, Option<u32>),
 }
 
-/// Places an item, admits a filer of no grants, sweeps the list and takes the filer back.
+/// Admits a filer of no grants, sweeps the list and takes the filer back. Tells whether the filer was vouched for.
+fn sweep_beside_filer(knife: &mut Knife, out: &mut Vec<u32>) -> bool
+    requires takes { IsOpen (lists_of knife.old) 0 }
+    requires chunks { length (chunks_of (row (lists_of knife.old) 0)) ≡ 1 }
+    requires seats { seats_out (lists_of knife.old) < 100 }
+    requires given { (lists_of knife.old).given < 100 }
+    requires out { (vec_len out.old ≡ 0) × (256 ≤ vec_capacity out.old) }
+{
+    let filer = knife.admit(&[]);
+    knife.shut_and_sweep(0, out);
+    let vouched = knife.vouches(&filer);
+    knife.take_back(filer);
+    vouched
+}
+
+/// Places an item, and sweeps the list.
 fn place_and_sweep(knife: &mut Knife, item: u32, out: &mut Vec<u32>) -> Placed
     requires takes { IsOpen (lists_of knife.old) 0 }
     requires slots { length (row (lists_of knife.old) 0).placed < 256 * length (row (lists_of knife.old) 0).owned }
@@ -44,10 +59,7 @@ fn place_and_sweep(knife: &mut Knife, item: u32, out: &mut Vec<u32>) -> Placed
 {
     let at = knife.place(0, item);
     let chunk = knife.owned(0).first().copied();
-    let filer = knife.admit(&[]);
-    knife.shut_and_sweep(0, out);
-    let vouched = knife.vouches(&filer);
-    knife.take_back(filer);
+    let vouched = sweep_beside_filer(knife, out);
     Placed {
         at,
         chunk,

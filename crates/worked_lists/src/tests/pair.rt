@@ -1,13 +1,7 @@
 //! Two filers in two threads, with a place each in one chunk.
-ghost use Rattle.std.specs.Prelude.{◌≡◌, All, IfOk, length};
-ghost use Rattle.list_filers.specs.Filers.{shared_name};
-ghost use Rattle.chunk_lists.specs.Knives.{lists_of};
-
-use crate::{Crew, Owner, Worker, file_at_once, hire, lay_out, note_standing};
-use chunk_lists::Lists;
+use super::hiring::hired;
+use crate::{Crew, file_at_once, note_standing};
 use list_words::{Answer, Filed};
-use std::alloc::{AllocError, Global};
-use std::sync::Arc;
 use std::test::Fail;
 
 /// The items 7 and 8.
@@ -20,19 +14,6 @@ const PAIR: Crew = Crew {
     seed: 0,
 };
 
-/// Two filers with a place each in the one chunk of a list, and a reader.
-fn begin(alloc: Global) -> Result<(Arc<Lists, Global>, Owner, Vec<Worker>), AllocError>
-    ensures rows { IfOk result (λ r. length (lists_of r.1.knife).rows ≡ 1) }
-    ensures name { IfOk result (λ r. (lists_of r.1.knife).name ≡ shared_name r.0.value) }
-    ensures reader { IfOk result (λ r. r.1.reader.name ≡ r.0.value.name) }
-    ensures workers { IfOk result (λ r. All (λ w. w.name ≡ shared_name r.0.value) r.2.items) }
-{
-    let (lists, mut knife) = lay_out(alloc, 1, 1)?;
-    let workers = hire(alloc, &mut knife, PAIR)?;
-    let owner = Owner::new(alloc, &lists, knife, 9)?;
-    Ok((lists, owner, workers))
-}
-
 /// The slot of the first answer, if that is that this item stands in the chunk 0.
 fn slot_of(answers: &[Answer], wanted: u32) -> Option<u32> {
     let Answer { item, filed, .. } = answers.first().copied()?;
@@ -44,7 +25,7 @@ fn slot_of(answers: &[Answer], wanted: u32) -> Option<u32> {
 
 #[test]
 fn two_filers_at_once_get_a_slot_each_and_a_reader_finds_both(rt: HostRuntime) -> Result<(), Fail> {
-    let (lists, mut owner, workers) = begin(rt.alloc())?;
+    let (lists, mut owner, workers) = hired(rt.alloc(), PAIR, 1, 9)?;
     let workers = file_at_once(&rt, &lists, workers)?;
     let first = workers
         .first()

@@ -1,8 +1,7 @@
 use Rattle.std.proofs.Common.{ℕ, subst, arith}
 use Rattle.chunk_lists.specs.Knives.{lists_of}
 use Rattle.list_filers.specs.Filers.{shared_name}
-use Rattle.worked_lists.specs.Layouts.{IsPartlyLaidOut}
-use Rattle.worked_lists.proofs.Laying.{partly_more}
+use Rattle.worked_lists.proofs.Laying.{IsPartlyLaidOut, partly_more}
 use Rattle.worked_lists.proofs.layout.lay_out.Goals as goal
 
 pub loop-list-preserved : goal.loop-list-preserved

@@ -1,7 +1,7 @@
 -- A small record, and what the definitions say of it.
 use Rattle.std.proofs.Common.{◌≡◌, ℕ, [], ◌∷◌, pos, refl}
 use Rattle.cube_math.specs.Points.{PointValue}
-use Rattle.batch_front.specs.Records.{Record, IsPrefix, journal, own, admitted}
+use Rattle.batch_front.specs.Records.{Record, IsPrefix, journal, own}
 use Rattle.batch_front.specs.declared.event.Event.TheVariants.{Admission, Publication, Look}
 
 -- a white point
@@ -19,10 +19,6 @@ published_once = refl
 -- each pass has its own events, in order, and a pass that did nothing has none
 events_of_each : (own story 0 ≡ Admission 5 (white 1 ∷ white 2 ∷ []) ∷ Publication 5 (white 1 ∷ white 2 ∷ []) ∷ []) × (own story 1 ≡ Look ∷ Admission 6 (white 3 ∷ []) ∷ []) × (own story 2 ≡ [])
 events_of_each = (refl, refl, refl)
-
--- three points were admitted, whether they were published or not
-admitted_points_count : admitted story ≡ 3
-admitted_points_count = refl
 
 -- what stood before the look is a beginning of it
 before_the_look : IsPrefix ((Admission 5 (white 1 ∷ white 2 ∷ []), 0) ∷ []) story

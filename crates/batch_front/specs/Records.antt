@@ -1,5 +1,5 @@
 -- Records of what passes did, and the journal of what they published.
-use Rattle.std.specs.Prelude.{◌≡◌, ◌==◌, ℕ, List, [], ◌++◌, filter, map, length, sum_by, Option, Some, None}
+use Rattle.std.specs.Prelude.{◌≡◌, ◌==◌, ℕ, List, ◌++◌, filter, map, Option, Some, None}
 use Rattle.std.specs.List.{filter_map}
 use Rattle.cube_math.specs.Points.{PointValue}
 use Rattle.cube_math.specs.Batches.{BatchValue}
@@ -31,16 +31,6 @@ journal events = filter_map entry_of events
 -- the events of one pass, in order
 abbrev pub own : Record → ℕ → List Event
 own events number = map (λ e. e.0) (filter (λ e. e.1 == number) events)
-
--- the points of an admission
-abbrev pub admitted_points : Event → List PointValue
-admitted_points (Admission input points) = points
-admitted_points (Publication input points) = []
-admitted_points Look = []
-
--- how many points were admitted
-abbrev pub admitted : Record → ℕ
-admitted events = sum_by (λ e. length (admitted_points e.0)) events
 
 -- the second record goes on where the first ends
 abbrev pub IsPrefix : Record → Record → Type 0

@@ -1,5 +1,5 @@
 //! In which list each item is.
-ghost use Rattle.std.specs.Prelude.{◌≡◌, true, false, None, Some, IfOk, replicate, slice_get, slice_set};
+ghost use Rattle.std.specs.Prelude.{◌≡◌, true, false, None, Some, IfOk, filter, is_some, length, replicate, slice_get, slice_set};
 
 use std::alloc::{AllocError, Global};
 
@@ -37,7 +37,9 @@ impl Homes {
     }
 
     /// How many items were found.
-    pub fn count(&self) -> usize {
+    pub fn count(&self) -> usize
+        ensures { result ≡ length (filter is_some self.now.lists.items) }
+    {
         self.lists.iter().filter(|home| home.is_some()).count()
     }
 }

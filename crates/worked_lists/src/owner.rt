@@ -1,5 +1,5 @@
 //! An owner who sweeps lists while others file in them, and notes where each item was found.
-ghost use Rattle.std.specs.Prelude.{◌≡◌, ℕ, ◌+◌, ◌<◌, ◌≤◌, false, None, length, replicate, IfOk, IfSome, OnOk};
+ghost use Rattle.std.specs.Prelude.{◌≡◌, ◌↔◌, ℕ, ◌+◌, ◌<◌, ◌≤◌, false, None, length, replicate, IfOk, IfSome, IsNone, OnOk};
 ghost use Rattle.list_machine.specs.Words.{decode};
 ghost use Rattle.list_table.specs.GuestMoves.{IsSlotWord};
 ghost use Rattle.list_words.specs.Store.{found_in, one_more, row, seats_out};
@@ -136,6 +136,7 @@ fn look<L: Ledger>(
     requires within { slot < 256 }
     ensures reader { reader.new ≡ reader.old }
     ensures word { IfSome result (λ word. IsSlotWord reader.old.guest chunk slot (decode word)) }
+    ensures none { IsNone result ↔ (lists.now.chunks ≤ chunk) }
 {
     if chunk < lists.chunks() {
         Some(reader.slot(lists, chunk, slot, steps))

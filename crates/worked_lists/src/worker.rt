@@ -1,6 +1,5 @@
 //! Workers: each files items in lists that its dice choose.
-ghost use Rattle.std.specs.Prelude.{◌≡◌, ℕ, ◌<◌, ◌≤◌, length, slice_index, IfOk, IfSome};
-ghost use Rattle.list_words.specs.Filing.{granted_in};
+ghost use Rattle.std.specs.Prelude.{◌≡◌, ℕ, ◌<◌, ◌≤◌, ◌^◌, length, slice_index, IfNone, IfSome};
 ghost use Rattle.list_filers.specs.Filers.{shared_name};
 ghost use Rattle.worked_lists.specs.Workers.{AreLeft};
 
@@ -105,19 +104,28 @@ impl Worker {
 
 /// A list in which places are left: the one that the dice choose, or the next after it.
 fn choose(dice: &mut Dice, left: &[u32]) -> Option<u32>
-    ensures { IfSome result (λ list. (list < length left.now) × (0 < slice_index left.now list)) }
+    ensures some { IfSome result (λ list. (list < length left.now) × (0 < slice_index left.now list)) }
+    ensures none { length left.now < 2 ^ 32 → IfNone result ((l : ℕ) → l < length left.now → slice_index left.now l ≡ 0) }
 {
     let count = u32::try_from(left.len()).ok()?;
     if count == 0 {
         return None;
     }
     let chosen = dice.below(count);
-    for list in chosen..count {
-        if left[list as usize] > 0 {
-            return Some(list);
-        }
+    if let Some(list) = first_left(left, chosen, count) {
+        return Some(list);
     }
-    for list in 0..chosen {
+    first_left(left, 0, chosen)
+}
+
+/// The first list from one on and below another in which places are left.
+fn first_left(left: &[u32], from: u32, end: u32) -> Option<u32>
+    requires order { from ≤ end }
+    requires end { end ≤ length left.now }
+    ensures some { IfSome result (λ list. (list < length left.now) × (0 < slice_index left.now list)) }
+    ensures none { IfNone result ((l : ℕ) → from ≤ l → l < end → slice_index left.now l ≡ 0) }
+{
+    for list in from..end {
         if left[list as usize] > 0 {
             return Some(list);
         }

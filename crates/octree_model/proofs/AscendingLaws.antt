@@ -1,5 +1,5 @@
 -- Ascending lists of numbers, and the least number of a list.
-use Rattle.std.proofs.Common.{◌≡◌, ℕ, suc, ◌<◌, ◌≤◌, inl, inr, Bool, true, false, ◌||◌, List, [], ◌∷◌, ◌++◌, ap, refl, sym, arith, ◌∙◌, Option, Some, None, nat_eq, cond, min}
+use Rattle.std.proofs.Common.{◌≡◌, ℕ, suc, ◌+◌, ◌<◌, ◌≤◌, inl, inr, Bool, true, false, ◌||◌, List, [], ◌∷◌, ◌++◌, length, ap, refl, sym, arith, ◌∙◌, Option, Some, None, nat_eq, cond, min}
 use Rattle.std.specs.List.{filter}
 use Rattle.std.proofs.lemmas.Bool.{cases_lt, cases_eq, lt-ltb, le-ltb, eq-eqb, ne_eqb}
 use Rattle.std.proofs.lemmas.List.Elements.{filter-append}
@@ -119,3 +119,32 @@ with_number_before_last b n l (k ∷ ks) =
 
 pub filter_next : (t : ℕ → Bool) (n : ℕ) → filter t (up_to (suc n)) ≡ filter t (up_to n) ++ cond (t n) (n ∷ []) []
 filter_next t n = filter-append t (up_to n) (n ∷ [])
+
+-- a list with a number that is new is longer by one, and no list is shorter
+pub length-with_new : (z : ℕ) (ks : List ℕ) → has z ks ≡ false → length (with_number z ks) ≡ length ks + 1
+length-with_new z [] new = refl
+length-with_new z (k ∷ ks) new = elim (cases_lt z k) [
+  | inl before ↦ omega (arith, ap length (with_number_before z k ks before))
+  | inr not_before ↦ elim (cases_eq z k) [
+    | inl same ↦ absurd (there (nat_eq z k) (has z ks) (eq-eqb z k same) new)
+    | inr other ↦ omega (arith, ap length (with_number_behind z k ks (omega arith)), length-with_new z ks (right_false (nat_eq z k) (has z ks) new))
+  ]
+]
+  where
+    there : (a b : Bool) → a ≡ true → (a || b) ≡ false → ⊥
+    there true b e h = cc
+    there false b e h = cc
+
+    right_false : (a b : Bool) → (a || b) ≡ false → b ≡ false
+    right_false true b e = cc
+    right_false false b e = e
+
+pub length-with_number : (z : ℕ) (ks : List ℕ) → length ks ≤ length (with_number z ks)
+length-with_number z [] = omega arith
+length-with_number z (k ∷ ks) = elim (cases_lt z k) [
+  | inl before ↦ omega (arith, ap length (with_number_before z k ks before))
+  | inr not_before ↦ elim (cases_eq z k) [
+    | inl same ↦ omega (arith, ap length (with_number_at z k ks same))
+    | inr other ↦ omega (arith, ap length (with_number_behind z k ks (omega arith)), length-with_number z ks)
+  ]
+]

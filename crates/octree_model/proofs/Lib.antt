@@ -3,6 +3,7 @@ pub mod BagLaws
 pub mod CountLaws
 pub mod FilterLaws
 mod Examples
+pub mod HasLaws
 pub mod NumberLaws
 pub mod OctreeLaws
 pub mod SameBagLaws

@@ -1,17 +1,17 @@
 -- The least key of each cell, one point after the other.
-use Rattle.std.proofs.Common.{◌≡◌, ℕ, zero, suc, ◌+◌, ◌^◌, ◌<◌, ◌≤◌, ◌≢◌, inl, inr, Bool, true, false, ◌||◌, List, [], ◌∷◌, ◌++◌, map, take, length, get_or, set, ap, refl, sym, arith, ◌∙◌, nat_eq, cond, Some, min, not, ◌%◌}
+use Rattle.std.proofs.Common.{◌≡◌, ℕ, ◌+◌, ◌^◌, ◌<◌, ◌≤◌, ◌≢◌, inl, inr, Bool, true, false, ◌||◌, List, [], ◌∷◌, ◌++◌, map, take, length, get_or, set, subst, ap, refl, sym, arith, ◌∙◌, nat_eq, cond, Some, min, not, ◌%◌}
 use Rattle.std.specs.List.{filter}
-use Rattle.std.specs.Prelude.{unwrap_or, slice_index}
-use Rattle.std.proofs.Math.Bool.{or_assoc, or-false, or-true}
+use Rattle.std.specs.Prelude.{unwrap_or}
 use Rattle.std.proofs.lemmas.Bool.{cases_eq, eq-eqb, ne_eqb}
-use Rattle.std.proofs.lemmas.List.{map-append, append-nil, get_or-set_same, get_or-set_other}
+use Rattle.std.proofs.lemmas.List.{map-append, append-nil, length-set, length_push, get_or_push, get_or_append_left, get_or-set_same, get_or-set_other}
 use Rattle.std.proofs.lemmas.List.Elements.{filter-append}
 use Rattle.cube_math.specs.Points.{PointValue}
 use Rattle.cube_math.specs.Cubes.{CubeValue, cell, key}
 use Rattle.octree_model.specs.Numbers.{has, with_number, ascending, least, lesser}
 use Rattle.octree_model.specs.Voxels.{cell_keys, cell_colour, voxels}
-use Rattle.octree_model.proofs.AscendingLaws.{least_push, ascending_push, has-ascending}
-use Rattle.octree_plain.specs.Sampling.{IsLeastKey, HasLeastKeys}
+use Rattle.octree_model.proofs.AscendingLaws.{least_push, ascending_push, has-ascending, length-with_new, length-with_number}
+use Rattle.octree_model.proofs.HasLaws.{has_push, has_at, map_same_in}
+use Rattle.octree_plain.specs.Sampling.{HasLeastKey, HasLeastKeys, key_at}
 
 -- the keys of a cell with one point more
 keys_push : (c : CubeValue) (qs : List PointValue) (p : PointValue) (z : ℕ) → cell_keys c (qs ++ p ∷ []) z ≡ cell_keys c qs z ++ cond (nat_eq (cell c p) z) (key c p ∷ []) []
@@ -46,10 +46,6 @@ no_keys c (q ∷ qs) z h =
     right_false true b e = cc
     right_false false b e = e
 
-has_push : (z n : ℕ) (ks : List ℕ) → has z (ks ++ n ∷ []) ≡ (has z ks || nat_eq z n)
-has_push z n [] = or-false (nat_eq z n)
-has_push z n (k ∷ ks) = ap (λ b. nat_eq z k || b) (has_push z n ks) ∙ sym (or_assoc (nat_eq z k) (has z ks) (nat_eq z n))
-
 -- a cell of the points so far, or that of the new one
 old_cell : (c : CubeValue) (qs : List PointValue) (p : PointValue) (z : ℕ) → cell c p ≢ z → has z (map (cell c) (qs ++ p ∷ [])) ≡ true → has z (map (cell c) qs) ≡ true
 old_cell c qs p z other h =
@@ -63,55 +59,112 @@ old_cell c qs p z other h =
         contra true n e = cc
         contra false n e = cc
 
--- the least key of a cell stays where a point comes elsewhere
-stays : (c : CubeValue) (qs : List PointValue) (p : PointValue) (z k : ℕ) → cell c p ≢ z → IsLeastKey c qs z k → IsLeastKey c (qs ++ p ∷ []) z k
-stays c qs p z k other before = record { small = before.small; least_key = least_elsewhere c qs p z other ∙ before.least_key }
+-- a cell of the points with the new one is one of the points so far, where the new one's is
+comes : (c : CubeValue) (qs : List PointValue) (p : PointValue) (z y : ℕ) → z ≡ cell c p → has z (map (cell c) qs) ≡ true → has y (map (cell c) (qs ++ p ∷ [])) ≡ true → has y (map (cell c) qs) ≡ true
+comes c qs p z y here old h = elim (cases_eq z y) [
+  | inl same ↦ subst (λ n. has n (map (cell c) qs) ≡ true) same old
+  | inr other ↦ old_cell c qs p y (λ e. other (here ∙ e)) h
+]
 
--- a table in which the new point's key is the least of its cell
-taken : (c : CubeValue) (qs : List PointValue) (p : PointValue) (table : List ℕ) (z k : ℕ) → z < length table → z < 2 ^ 21 → z ≡ cell c p → k ≡ key c p
-    → lesser (key c p) (least (cell_keys c qs z)) ≡ key c p → HasLeastKeys c qs table → HasLeastKeys c (qs ++ p ∷ []) (set table z k)
-taken c qs p table z k within small here is first before y h =
-    elim (cases_eq z y) [
-      | inl same ↦
-          let place : get_or (set table z k) y 0 ≡ key c p = ap (λ n. get_or (set table z k) n 0) (sym same) ∙ get_or-set_same table z k 0 within ∙ is in
-          let now : least (cell_keys c (qs ++ p ∷ []) z) ≡ Some (key c p) = least_here c qs p z (sym here) ∙ ap (λ n. Some n) first in
-          rw place (rw (sym same) (record { small = small; least_key = now }))
-      | inr other ↦
-          let place : get_or (set table z k) y 0 ≡ get_or table y 0 = get_or-set_other table z y k 0 (λ e. other (sym e)) in
-          let there : cell c p ≢ y = λ e. other (here ∙ e) in
-          rw place (stays c qs p y (get_or table y 0) there (before y (old_cell c qs p y there h)))
-    ]
+-- what a cell other than the new point's keeps: it is one of the cells so far, and has its least key there
+record OtherCell (c : CubeValue) (qs : List PointValue) (p : PointValue) (places keys : List ℕ) (y : ℕ) : Type 0 where
+  old : has y (map (cell c) qs) ≡ true
+  small : y < 2 ^ 21
+  within : get_or places y 0 < length keys
+  least_key : least (cell_keys c (qs ++ p ∷ []) y) ≡ Some (get_or keys (get_or places y 0) 0)
 
--- one point more, in a cell that is new
-pub key_in_new_cell : (c : CubeValue) (qs : List PointValue) (p : PointValue) (table : List ℕ) (z k : ℕ) → z < length table → z < 2 ^ 21 → z ≡ cell c p → k ≡ key c p
-    → has z (map (cell c) qs) ≡ false → HasLeastKeys c qs table → HasLeastKeys c (qs ++ p ∷ []) (set table z k)
-key_in_new_cell c qs p table z k within small here is new before = taken c qs p table z k within small here is (ap (λ ks. lesser (key c p) (least ks)) (no_keys c qs z new)) before
+stays : (c : CubeValue) (qs : List PointValue) (p : PointValue) (places keys : List ℕ) (y : ℕ) → cell c p ≢ y → has y (map (cell c) (qs ++ p ∷ [])) ≡ true → HasLeastKeys c qs places keys → OtherCell c qs p places keys y
+stays c qs p places keys y there h before =
+    let old : has y (map (cell c) qs) ≡ true = old_cell c qs p y there h in
+    let found : HasLeastKey c qs places keys y = before.each y old in
+    record { old = old; small = found.small; within = found.within; least_key = least_elsewhere c qs p y there ∙ found.least_key }
 
--- one point more, with a key below the least so far
-pub lesser_key : (c : CubeValue) (qs : List PointValue) (p : PointValue) (table : List ℕ) (z k : ℕ) → z < length table → z < 2 ^ 21 → z ≡ cell c p → k ≡ key c p
-    → has z (map (cell c) qs) ≡ true → k < get_or table z 0 → HasLeastKeys c qs table → HasLeastKeys c (qs ++ p ∷ []) (set table z k)
-lesser_key c qs p table z k within small here is old l before =
-    taken c qs p table z k within small here is (ap (lesser (key c p)) ((before z old).least_key) ∙ least_of (key c p) (get_or table z 0) (rw (sym is) l)) before
+-- one point more, in a cell that is new: it gets the next place
+pub key_in_new_cell : (c : CubeValue) (qs : List PointValue) (p : PointValue) (places keys keys' : List ℕ) (z k at : ℕ) → z < length places → z < 2 ^ 21 → z ≡ cell c p → k ≡ key c p
+    → has z (map (cell c) qs) ≡ false → at ≡ length keys → keys' ≡ keys ++ k ∷ [] → HasLeastKeys c qs places keys → HasLeastKeys c (qs ++ p ∷ []) (set places z at) keys'
+key_in_new_cell c qs p places keys keys' z k at in_table small here is new end pushed before =
+    record {
+      each = λ y h. elim (cases_eq z y) [
+        | inl same ↦
+            let place : get_or (set places z at) y 0 ≡ at = own y same in
+            let least_key : least (cell_keys c (qs ++ p ∷ []) z) ≡ Some (get_or keys' at 0) =
+            least_here c qs p z (sym here) ∙ ap (λ ks. Some (lesser (key c p) (least ks))) (no_keys c qs z new) ∙ ap Some (sym (read ∙ is)) in
+            record {
+              small = rw (sym same) small;
+              within = omega (arith, place, longer);
+              least_key = rw (sym same) (least_key ∙ ap (λ n. Some (get_or keys' n 0)) (sym (own z refl)));
+            }
+        | inr other ↦
+            let kept : OtherCell c qs p places keys y = stays c qs p places keys y (λ e. other (here ∙ e)) h before in
+            let place : get_or (set places z at) y 0 ≡ get_or places y 0 = theirs y other in
+            let same_key : get_or keys' (get_or places y 0) 0 ≡ get_or keys (get_or places y 0) 0 =
+            ap (λ (ks : List ℕ). get_or ks (get_or places y 0) 0) pushed ∙ get_or_append_left keys (k ∷ []) 0 (get_or places y 0) kept.within in
+            record {
+              small = kept.small;
+              within = omega (arith, place, longer, kept.within);
+              least_key = kept.least_key ∙ ap Some (sym (ap (λ n. get_or keys' n 0) place ∙ same_key));
+            }
+      ];
+      apart = λ x y hx hy e. elim (cases_eq z x) [
+        | inl same ↦ elim (cases_eq z y) [
+            | inl same' ↦ sym same ∙ same'
+            | inr other ↦ absurd (behind x y same other hy e)
+          ]
+        | inr other ↦ elim (cases_eq z y) [
+            | inl same ↦ absurd (behind y x same other hx (sym e))
+            | inr other' ↦
+                let kept : OtherCell c qs p places keys x = stays c qs p places keys x (λ q. other (here ∙ q)) hx before in
+                let kept' : OtherCell c qs p places keys y = stays c qs p places keys y (λ q. other' (here ∙ q)) hy before in
+                before.apart x y kept.old kept'.old (sym (theirs x other) ∙ e ∙ theirs y other')
+          ]
+      ];
+    }
   where
-    least_of : (a b : ℕ) → a < b → min a b ≡ a
-    least_of a b l = omega arith
+    own : (y : ℕ) → z ≡ y → get_or (set places z at) y 0 ≡ at
+    own y same = ap (λ n. get_or (set places z at) n 0) (sym same) ∙ get_or-set_same places z at 0 in_table
 
--- one point more, with no lesser key
-pub greater_key : (c : CubeValue) (qs : List PointValue) (p : PointValue) (table : List ℕ) (z k : ℕ) → z ≡ cell c p → k ≡ key c p
-    → has z (map (cell c) qs) ≡ true → get_or table z 0 ≤ k → HasLeastKeys c qs table → HasLeastKeys c (qs ++ p ∷ []) table
-greater_key c qs p table z k here is old le before y h =
-    elim (cases_eq z y) [
-      | inl same ↦
-          let now : least (cell_keys c (qs ++ p ∷ []) z) ≡ Some (get_or table z 0) =
-          least_here c qs p z (sym here) ∙ ap (λ o. Some (lesser (key c p) o)) ((before z old).least_key) ∙ ap (λ n. Some n) (least_of (key c p) (get_or table z 0) (rw (sym is) le)) in
-          rw (sym same) (record { small = (before z old).small; least_key = now })
-      | inr other ↦
-          let there : cell c p ≢ y = λ e. other (here ∙ e) in
-          stays c qs p y (get_or table y 0) there (before y (old_cell c qs p y there h))
-    ]
-  where
-    least_of : (a b : ℕ) → b ≤ a → min a b ≡ b
-    least_of a b l = omega arith
+    theirs : (y : ℕ) → z ≢ y → get_or (set places z at) y 0 ≡ get_or places y 0
+    theirs y other = get_or-set_other places z y at 0 (λ e. other (sym e))
+
+    longer : length keys' ≡ length keys + 1
+    longer = ap length pushed ∙ length_push keys k
+
+    read : get_or keys' at 0 ≡ k
+    read = ap (λ (ks : List ℕ). get_or ks at 0) pushed ∙ get_or_push keys k 0 at (sym end)
+
+    -- no other cell has the new place
+    behind : (x y : ℕ) → z ≡ x → z ≢ y → has y (map (cell c) (qs ++ p ∷ [])) ≡ true → get_or (set places z at) x 0 ≡ get_or (set places z at) y 0 → ⊥
+    behind x y same other h e =
+        let kept : OtherCell c qs p places keys y = stays c qs p places keys y (λ q. other (here ∙ q)) h before in
+        let place : get_or (set places z at) x 0 ≡ at = own x same in
+        let place' : get_or (set places z at) y 0 ≡ get_or places y 0 = theirs y other in
+        absurd (omega (arith, place, place', e, end, kept.within))
+
+-- one point more, in a cell that has a key: the lesser one stays
+pub key_in_old_cell : (c : CubeValue) (qs : List PointValue) (p : PointValue) (places keys : List ℕ) (z k at m : ℕ) → z ≡ cell c p → k ≡ key c p
+    → has z (map (cell c) qs) ≡ true → at ≡ get_or places z 0 → m ≡ min k (get_or keys at 0) → HasLeastKeys c qs places keys → HasLeastKeys c (qs ++ p ∷ []) places (set keys at m)
+key_in_old_cell c qs p places keys z k at m here is old place lesser_one before =
+    record {
+      each = λ y h. elim (cases_eq z y) [
+        | inl same ↦
+            let found : HasLeastKey c qs places keys z = before.each z old in
+            let within : at < length keys = omega (arith, place, found.within) in
+            let is_least : m ≡ lesser (key c p) (least (cell_keys c qs z)) =
+            lesser_one ∙ ap (λ n. min n (get_or keys at 0)) is ∙ ap (λ n. min (key c p) (get_or keys n 0)) place ∙ sym (ap (lesser (key c p)) found.least_key) in
+            let least_key : least (cell_keys c (qs ++ p ∷ []) z) ≡ Some (get_or (set keys at m) (get_or places z 0) 0) =
+            least_here c qs p z (sym here) ∙ ap Some (sym (ap (λ n. get_or (set keys at m) n 0) (sym place) ∙ get_or-set_same keys at m 0 within ∙ is_least)) in
+            rw (sym same) (record { small = found.small; within = omega (arith, place, found.within, length-set keys at m); least_key = least_key })
+        | inr other ↦
+            let kept : OtherCell c qs p places keys y = stays c qs p places keys y (λ e. other (here ∙ e)) h before in
+            let elsewhere : get_or places y 0 ≢ at = λ e. other (sym (before.apart y z kept.old old (e ∙ place))) in
+            record {
+              small = kept.small;
+              within = omega (arith, kept.within, length-set keys at m);
+              least_key = kept.least_key ∙ ap Some (sym (get_or-set_other keys at (get_or places y 0) m 0 elsewhere));
+            }
+      ];
+      apart = λ x y hx hy e. before.apart x y (comes c qs p z x here old hx) (comes c qs p z y here old hy) e;
+    }
 
 -- ---- the loop over the points
 pub known_cell : (z : ℕ) (ns cells : List ℕ) → cells ≡ ascending ns → false ≡ not (has z cells) → has z ns ≡ true
@@ -121,12 +174,12 @@ known_cell z ns cells is e = sym (has-ascending z ns) ∙ ap (has z) (sym is) �
     not_false true h = refl
     not_false false h = h
 
+not_true : (b : Bool) → true ≡ not b → b ≡ false
+not_true true h = h
+not_true false h = refl
+
 pub new_cell : (z : ℕ) (ns cells : List ℕ) → cells ≡ ascending ns → true ≡ not (has z cells) → has z ns ≡ false
 new_cell z ns cells is e = sym (has-ascending z ns) ∙ ap (has z) (sym is) ∙ not_true (has z cells) e
-  where
-    not_true : (b : Bool) → true ≡ not b → b ≡ false
-    not_true true h = h
-    not_true false h = refl
 
 pub found_more : (c : CubeValue) (ps : List PointValue) (i z : ℕ) (p : PointValue) (cells cells' : List ℕ) → cells ≡ ascending (map (cell c) (take i ps)) → cells' ≡ with_number z cells
     → z ≡ cell c p → take (i + 1) ps ≡ take i ps ++ p ∷ [] → cells' ≡ ascending (map (cell c) (take (i + 1) ps))
@@ -136,31 +189,29 @@ found_more c ps i z p cells cells' before more is next =
     ∙ ap ascending (sym (map-append (cell c) (take i ps) (p ∷ [])))
     ∙ ap (λ qs. ascending (map (cell c) qs)) (sym next)
 
+pub one_cell_more : (z : ℕ) (cells cells' : List ℕ) → true ≡ not (has z cells) → cells' ≡ with_number z cells → length cells' ≡ length cells + 1
+one_cell_more z cells cells' new e = ap length e ∙ length-with_new z cells (not_true (has z cells) new)
+
+pub no_cell_less : (z : ℕ) (cells cells' : List ℕ) → cells' ≡ with_number z cells → length cells ≤ length cells'
+no_cell_less z cells cells' e = omega (arith, ap length e, length-with_number z cells)
+
 -- ---- the loop over the cells
-pub has_at : (ks : List ℕ) (i d : ℕ) → i < length ks → has (get_or ks i d) ks ≡ true
-has_at [] i d l = absurd (omega arith)
-has_at (k ∷ ks) zero d l = ap (λ b. b || has k ks) (eq-eqb k k refl)
-has_at (k ∷ ks) (suc i) d l = ap (λ b. nat_eq (get_or ks i d) k || b) (has_at ks i d (omega arith)) ∙ or-true (nat_eq (get_or ks i d) k)
+-- a cell of the list has its least key at its place
+least_at : (c : CubeValue) (ps : List PointValue) (cells places keys : List ℕ) (z : ℕ) → cells ≡ ascending (map (cell c) ps) → HasLeastKeys c ps places keys → has z cells ≡ true → HasLeastKey c ps places keys z
+least_at c ps cells places keys z is before h = before.each z (sym (has-ascending z (map (cell c) ps)) ∙ ap (has z) (sym is) ∙ h)
 
--- a cell of the list has its least key in the table
-least_at : (c : CubeValue) (ps : List PointValue) (cells table : List ℕ) (z : ℕ) → cells ≡ ascending (map (cell c) ps) → HasLeastKeys c ps table → has z cells ≡ true → IsLeastKey c ps z (slice_index table z)
-least_at c ps cells table z is before h = before z (sym (has-ascending z (map (cell c) ps)) ∙ ap (has z) (sym is) ∙ h)
+pub cells_are_small : (c : CubeValue) (ps : List PointValue) (cells places keys : List ℕ) → cells ≡ ascending (map (cell c) ps) → HasLeastKeys c ps places keys → (i d : ℕ) → i < length cells → get_or cells i d < 2 ^ 21
+cells_are_small c ps cells places keys is before i d l = (least_at c ps cells places keys (get_or cells i d) is before (has_at cells i d l)).small
 
-pub cells_are_small : (c : CubeValue) (ps : List PointValue) (cells table : List ℕ) → cells ≡ ascending (map (cell c) ps) → HasLeastKeys c ps table → (i d : ℕ) → i < length cells → get_or cells i d < 2 ^ 21
-cells_are_small c ps cells table is before i d l = (least_at c ps cells table (get_or cells i d) is before (has_at cells i d l)).small
-
--- functions that agree on the numbers of a list give the same list
-map_same_in : {X : Type 0} (f g : ℕ → X) (ks : List ℕ) → ((z : ℕ) → has z ks ≡ true → f z ≡ g z) → map f ks ≡ map g ks
-map_same_in f g [] same = refl
-map_same_in f g (k ∷ ks) same =
-    ap (λ x. x ∷ map f ks) (same k (ap (λ b. b || has k ks) (eq-eqb k k refl)))
-    ∙ ap (λ xs. g k ∷ xs) (map_same_in f g ks (λ z h. same z (ap (λ b. nat_eq z k || b) h ∙ or-true (nat_eq z k))))
+pub cells_have_places : (c : CubeValue) (ps : List PointValue) (cells places keys : List ℕ) → cells ≡ ascending (map (cell c) ps) → HasLeastKeys c ps places keys
+    → (i d : ℕ) → i < length cells → get_or places (get_or cells i d) 0 < length keys
+cells_have_places c ps cells places keys is before i d l = (least_at c ps cells places keys (get_or cells i d) is before (has_at cells i d l)).within
 
 -- the cells with the colours of their least keys are the voxels
-pub coloured_cells : (c : CubeValue) (ps : List PointValue) (cells table : List ℕ) → cells ≡ ascending (map (cell c) ps) → HasLeastKeys c ps table
-    → map (λ z. record { cell = z; rgb = slice_index table z % 2 ^ 24 }) cells ≡ voxels c ps
+pub coloured_cells : (c : CubeValue) (ps : List PointValue) (cells places keys : List ℕ) → cells ≡ ascending (map (cell c) ps) → HasLeastKeys c ps places keys
+    → map (λ z. record { cell = z; rgb = key_at places keys z % 2 ^ 24 }) cells ≡ voxels c ps
 unfolding voxels
-coloured_cells c ps cells table is before =
-    map_same_in (λ z. record { cell = z; rgb = slice_index table z % 2 ^ 24 }) (λ z. record { cell = z; rgb = cell_colour c ps z }) cells
-    (λ z h. ap (λ r. record { cell = z; rgb = r }) (sym (ap (λ o. unwrap_or o 0 % 2 ^ 24) ((least_at c ps cells table z is before h).least_key))))
+coloured_cells c ps cells places keys is before =
+    map_same_in (λ z. record { cell = z; rgb = key_at places keys z % 2 ^ 24 }) (λ z. record { cell = z; rgb = cell_colour c ps z }) cells
+    (λ z h. ap (λ r. record { cell = z; rgb = r }) (sym (ap (λ o. unwrap_or o 0 % 2 ^ 24) ((least_at c ps cells places keys z is before h).least_key))))
     ∙ ap (map (λ z. record { cell = z; rgb = cell_colour c ps z })) is

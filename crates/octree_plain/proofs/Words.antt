@@ -6,12 +6,14 @@ use Rattle.std.specs.Int.RustNames.{bit_or, bit_and}
 use Rattle.std.proofs.lemmas.Bool.{cases_eq, lt-ltb, eq-eqb, ne_eqb}
 use Rattle.std.proofs.lemmas.List.{map-append, append-nil, length-set, get_or-set_same, get_or-set_other, drop_all, take_all}
 use Rattle.std.proofs.lemmas.List.Elements.{filter-append}
+use Rattle.std.proofs.lemmas.List.Sums.{length-filter, count_by-le-length}
 use Rattle.std.proofs.lemmas.Nat.Bits.{bit_at_set_same, bit_at_set_other, bit_at_clear_same, bit_at_clear_other, bit_at-trailing_zeros, bit_at-zero, bit_at-lt, and_pow}
 use Rattle.std.proofs.lemmas.Nat.{one_shl, pow_pos}
 use Rattle.std.proofs.Math.Nat.{zero-mul}
 use Rattle.std.specs.List.{AllClonesOf}
 use Rattle.octree_model.specs.Numbers.{up_to, has, with_number}
 use Rattle.octree_plain.specs.CellSets.{is_marked, marked_cells, set_bits}
+use Rattle.octree_model.proofs.NumberLaws.{length-up_to}
 use Rattle.octree_model.proofs.FilterLaws.{filter_same, filter_none, filter_with, filter_lowest, has-filter}
 
 -- ---- the bits of a word
@@ -154,6 +156,11 @@ all_copies x clones same (y ∷ ys) h (suc k) l = all_copies x clones same ys h.
 pub has-marked_cells : (words : List ℕ) (z : ℕ) → z < 64 * length words → has z (marked_cells words) ≡ is_marked words z
 unfolding marked_cells
 has-marked_cells words z l = has-filter z (is_marked words) (64 * length words) ∙ ap (λ b. b && is_marked words z) (lt-ltb _ _ l)
+
+-- there are no more of them than there are bits
+pub few_marks : (words : List ℕ) → length (marked_cells words) ≤ 64 * length words
+unfolding marked_cells
+few_marks words = omega (arith, length-filter (is_marked words) (up_to (64 * length words)), count_by-le-length (is_marked words) (up_to (64 * length words)), length-up_to (64 * length words))
 
 -- a cell is put in by its bit
 abbrev pub with_bit : ℕ → ℕ → ℕ

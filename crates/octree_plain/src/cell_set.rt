@@ -40,6 +40,7 @@ impl CellSet {
         requires { cell < 2 ^ 21 }
         ensures new { result ≡ not (has cell self.old) }
         ensures cells { self.new ≡ with_number cell self.old }
+        ensures few { length self.old ≤ 2 ^ 21 }
     {
         let word = &mut self.words[cell as usize / 64];
         let bit = 1u64 << (cell % 64);

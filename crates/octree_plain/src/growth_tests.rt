@@ -1,7 +1,7 @@
 ghost use Rattle.std.specs.Prelude.{All, IsTrue};
 ghost use Rattle.cube_math.specs.Cubes.{contains};
 
-use crate::{build, build_from};
+use crate::build;
 use cube_math::{Cube, Point};
 use octree_model::{InnerNode, Tree, Voxel};
 use std::process::Abort;
@@ -67,9 +67,7 @@ fn one_point_above_the_limit_splits_the_root(rt: HostRuntime) -> Result<(), Fail
     let cube = Cube::new(0, 0, 0, 8).ok_or("fits")?;
     let points = [white(0), white(1), white(200)];
     assert!(rt; has_all(&cube, &points));
-    assert_one_split(&rt, &build(rt.alloc(), &points, cube, 2)?)?;
-    let points = points.to_vec(rt.alloc())?;
-    assert_one_split(&rt, &build_from(rt.alloc(), points, cube, 2)?)
+    assert_one_split(&rt, &build(rt.alloc(), &points, cube, 2)?)
 }
 
 #[test]

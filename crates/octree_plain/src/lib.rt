@@ -20,7 +20,7 @@ pub use bounds::bounds_text;
 pub use cell_set::push_marked_cells;
 pub use count::node_count;
 pub use fitting::{Span, fit_cube};
-pub use growth::{build, build_from, spread};
+pub use growth::{build, spread};
 pub use listing::nodes_text;
 pub use octree_model::{InnerNode, OutlineNode, Points, Tree, Voxel};
 pub use outlines::outline;

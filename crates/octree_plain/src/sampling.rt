@@ -1,8 +1,9 @@
 ghost use Rattle.std.specs.Prelude.{◌≡◌, ◌<◌, ◌^◌, ◌%◌, [], All, IsTrue, IfOk, OnOk, length, map, slice_index};
-ghost use Rattle.cube_math.specs.Cubes.{contains, cell, key};
-ghost use Rattle.octree_model.specs.Numbers.{ascending};
+ghost use Rattle.cube_math.specs.Cubes.{contains, cell, child, key};
+ghost use Rattle.octree_model.specs.Numbers.{ascending, up_to};
+ghost use Rattle.octree_model.specs.Octree.{inside};
 ghost use Rattle.octree_model.specs.Voxels.{voxels};
-ghost use Rattle.octree_plain.specs.Sampling.{HasLeastKeys};
+ghost use Rattle.octree_plain.specs.Sampling.{HasLeastKeys, key_at};
 
 use crate::cell_set::CellSet;
 use cube_math::{Cube, Point};
@@ -13,13 +14,24 @@ use std::marker::Model;
 /// How many cells a node has.
 const CELLS: usize = 2_097_152;
 
+/// What one pass over an inner node's points finds.
+#[derive(Drop)]
+pub struct Sample {
+    /// The voxels of the node, by cell.
+    pub voxels: Vec<Voxel>,
+    /// How many points lie in each octant.
+    pub octants: [usize; 8],
+}
+
 /// Finds the voxels of nodes, one node after the other. It is seen as the cells that it has found so far
 /// of the node at hand, none between two nodes.
 #[derive(Drop)]
 pub struct Sampler {
     cells: CellSet,
-    /// For each of these cells, the least key of the points that fall in it.
-    least_keys: Vec<u128>,
+    /// For each of these cells, where its least key stands among the keys.
+    places: Vec<u32>,
+    /// The least key of each cell, in the order in which the cells were found.
+    keys: Vec<u128>,
 }
 
 impl Model for Sampler {
@@ -29,7 +41,7 @@ impl Model for Sampler {
 
     ghost view = { λ s. s.cells };
 
-    ghost invariant = { λ s. length s.least_keys.items ≡ 2097152 };
+    ghost invariant = { λ s. length s.places.items ≡ 2097152 };
 }
 
 impl Sampler {
@@ -38,47 +50,68 @@ impl Sampler {
     {
         Ok(Sampler {
             cells: CellSet::new(alloc)?,
-            least_keys: vec![in alloc; 0; CELLS]?,
+            places: vec![in alloc; 0; CELLS]?,
+            keys: Vec::new(alloc),
         })
     }
 
-    /// The voxels of an inner node with these points.
-    pub fn voxels(
+    /// The voxels of an inner node with these points, and how many of them lie in each octant.
+    pub fn sample(
         &mut self,
         alloc: Global,
         cube: &Cube,
         points: &[Point],
-    ) -> Result<Vec<Voxel>, AllocError>
+    ) -> Result<Sample, AllocError>
         requires between_nodes { self.old ≡ [] }
         requires contained { All (λ p. IsTrue (contains cube.now p)) points.now }
         requires splits { 7 < cube.now.bits }
-        ensures voxels { IfOk result (λ found. found.items ≡ voxels cube.now points.now) }
+        ensures voxels { IfOk result (λ sample. sample.voxels.items ≡ voxels cube.now points.now) }
+        ensures octants { IfOk result (λ sample. sample.octants ≡ map (λ g. length (inside (child cube.now g) points.now)) (up_to 8)) }
         ensures between_nodes { OnOk result (self.new ≡ []) }
     {
-        sample(&mut self.cells, &mut self.least_keys, cube, points);
+        self.keys.clear();
+        let octants = find_cells(&mut self.cells, &mut self.places, &mut self.keys, cube, points)?;
         let cells = self.cells.take(alloc)?;
-        coloured(alloc, &cells, &self.least_keys)
+        Ok(Sample {
+            voxels: coloured(alloc, &cells, &self.places, &self.keys)?,
+            octants,
+        })
     }
 }
 
-/// Finds the cells in which points fall, and the least key of each of them.
-fn sample(cells: &mut CellSet, least_keys: &mut [u128], cube: &Cube, points: &[Point])
-    requires empty { cells.old ≡ [] }
-    requires each_cell { length least_keys.old ≡ 2097152 }
+/// Finds the cells in which points fall and the least key of each of them, and counts the points of
+/// each octant. Where memory runs out it leaves the cells that it had found.
+fn find_cells(
+    cells: &mut CellSet,
+    places: &mut [u32],
+    keys: &mut Vec<u128>,
+    cube: &Cube,
+    points: &[Point],
+) -> Result<[usize; 8], AllocError>
+    requires no_cell { cells.old ≡ [] }
+    requires no_key { keys.old.items ≡ [] }
+    requires each_cell { length places.old ≡ 2097152 }
     requires contained { All (λ p. IsTrue (contains cube.now p)) points.now }
     requires splits { 7 < cube.now.bits }
-    ensures cells { cells.new ≡ ascending (map (cell cube.now) points.now) }
-    ensures least_keys { HasLeastKeys cube.now points.now least_keys.new }
+    ensures cells { OnOk result (cells.new ≡ ascending (map (cell cube.now) points.now)) }
+    ensures least_keys { OnOk result (HasLeastKeys cube.now points.now places.new keys.new.items) }
+    ensures octants { IfOk result (λ octants. octants ≡ map (λ g. length (inside (child cube.now g) points.now)) (up_to 8)) }
 {
+    let mut octants = [0usize; 8];
     for p in points {
+        octants[usize::from(cube.octant(p))] += 1;
         let cell = cube.cell(p);
-        let at = cell as usize;
         let key = key_of(cube, p);
         let is_new = cells.insert(cell);
-        if is_new || key < least_keys[at] {
-            least_keys[at] = key;
+        if is_new {
+            places[cell as usize] = keys.len() as u32;
+            keys.push(key)?;
+        } else {
+            let least = &mut keys[places[cell as usize] as usize];
+            *least = key.min(*least);
         }
     }
+    Ok(octants)
 }
 
 /// The key of a point in its cell.
@@ -91,14 +124,21 @@ fn key_of(cube: &Cube, p: &Point) -> u128
 }
 
 /// The cells as voxels, each with the colour of its least key.
-fn coloured(alloc: Global, cells: &[u32], least_keys: &[u128]) -> Result<Vec<Voxel>, AllocError>
-    requires cells { All (λ z. z < 2 ^ 21) cells.now }
-    requires each_cell { length least_keys.now ≡ 2097152 }
-    ensures { IfOk result (λ found. found.items ≡ map (λ z. record { cell = z; rgb = slice_index least_keys.now z % 2 ^ 24 }) cells.now) }
+fn coloured(
+    alloc: Global,
+    cells: &[u32],
+    places: &[u32],
+    keys: &[u128],
+) -> Result<Vec<Voxel>, AllocError>
+    requires small { All (λ z. z < 2 ^ 21) cells.now }
+    requires placed { All (λ z. slice_index places.now z < length keys.now) cells.now }
+    requires each_cell { length places.now ≡ 2097152 }
+    ensures { IfOk result (λ found. found.items ≡ map (λ z. record { cell = z; rgb = key_at places.now keys.now z % 2 ^ 24 }) cells.now) }
 {
     let mut found = Vec::with_capacity(alloc, cells.len())?;
     for cell in cells {
-        let key = least_keys[*cell as usize];
+        let place = places[*cell as usize];
+        let key = keys[place as usize];
         found.push(Voxel {
             cell: *cell,
             rgb: (key % (1 << 24)) as u32,

@@ -2,7 +2,7 @@ use Rattle.std.proofs.Common.{◌≡◌, ◌<◌, List, [], ◌∷◌, ◌++◌,
 use Rattle.std.proofs.lemmas.List.{map-set, length-map, get_or-map}
 use Rattle.cube_math.specs.Points.{PointValue}
 use Rattle.octree_plain.proofs.SpreadLaws.{spread_more}
-use Rattle.octree_plain.proofs.growth.spread.Goals as goal
+use Rattle.octree_plain.proofs.growth.spread_counted.Goals as goal
 
 pub loop-p-preserved : goal.loop-p-preserved
 loop-p-preserved c =

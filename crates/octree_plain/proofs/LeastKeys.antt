@@ -107,16 +107,16 @@ key_in_new_cell c qs p places keys keys' z k at in_table small here is new end p
       ];
       apart = λ x y hx hy e. elim (cases_eq z x) [
         | inl same ↦ elim (cases_eq z y) [
-            | inl same' ↦ sym same ∙ same'
-            | inr other ↦ absurd (behind x y same other hy e)
-          ]
+          | inl same' ↦ sym same ∙ same'
+          | inr other ↦ absurd (behind x y same other hy e)
+        ]
         | inr other ↦ elim (cases_eq z y) [
-            | inl same ↦ absurd (behind y x same other hx (sym e))
-            | inr other' ↦
-                let kept : OtherCell c qs p places keys x = stays c qs p places keys x (λ q. other (here ∙ q)) hx before in
-                let kept' : OtherCell c qs p places keys y = stays c qs p places keys y (λ q. other' (here ∙ q)) hy before in
-                before.apart x y kept.old kept'.old (sym (theirs x other) ∙ e ∙ theirs y other')
-          ]
+          | inl same ↦ absurd (behind y x same other hx (sym e))
+          | inr other' ↦
+              let kept : OtherCell c qs p places keys x = stays c qs p places keys x (λ q. other (here ∙ q)) hx before in
+              let kept' : OtherCell c qs p places keys y = stays c qs p places keys y (λ q. other' (here ∙ q)) hy before in
+              before.apart x y kept.old kept'.old (sym (theirs x other) ∙ e ∙ theirs y other')
+        ]
       ];
     }
   where

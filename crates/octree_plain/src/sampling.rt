@@ -70,7 +70,13 @@ impl Sampler {
         ensures between_nodes { OnOk result (self.new ≡ []) }
     {
         self.keys.clear();
-        let octants = find_cells(&mut self.cells, &mut self.places, &mut self.keys, cube, points)?;
+        let octants = find_cells(
+            &mut self.cells,
+            &mut self.places,
+            &mut self.keys,
+            cube,
+            points,
+        )?;
         let cells = self.cells.take(alloc)?;
         Ok(Sample {
             voxels: coloured(alloc, &cells, &self.places, &self.keys)?,

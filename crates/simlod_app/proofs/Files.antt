@@ -22,8 +22,8 @@ use Rattle.run_words.specs.Commands.{Text}
 use Rattle.xyz_points.specs.Reading.{xyz, IsFault}
 use Rattle.xyz_points.specs.declared.reader.XyzFault.{XyzFault}
 use Rattle.xyz_points.specs.declared.reader.XyzFault.TheVariants as text
-use Rattle.simlod_app.specs.declared.scan.Reading.{Reading}
-use Rattle.simlod_app.specs.declared.scan.FileCloud.{FileCloud}
+use Rattle.simlod_app.specs.declared.reading.Reading.{Reading}
+use Rattle.simlod_app.specs.declared.reading.FileCloud.{FileCloud}
 use Rattle.simlod_app.specs.Dues.{IsDue, GivesOver, Gives}
 use Rattle.simlod_app.specs.Outcomes.{IsSource}
 use Rattle.simlod_app.specs.RunFaults.{read_fault, xyz_fault, las_fault, IsOrMemory}

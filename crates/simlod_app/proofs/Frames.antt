@@ -9,7 +9,7 @@ use Rattle.run_report.specs.declared.fault.Fault.{Fault}
 use Rattle.run_report.specs.declared.fault.Fault.TheVariants.{Frames}
 use Rattle.run_words.specs.Commands.{Text}
 use Rattle.xyz_points.specs.Reading.{and_then, all_or_first_error}
-use Rattle.simlod_app.specs.declared.scan.Reading.{Reading}
+use Rattle.simlod_app.specs.declared.reading.Reading.{Reading}
 use Rattle.simlod_app.specs.Runs.{Source, Framed, is_las, frame_of, framed_file, las_frame, first_frame, in_frame, frame_step, cloud_in, cloud_of, beside_frame, framed_in, clouds_of, ◌>>=◌}
 
 -- the clouds of files among files of which this is the first LAS file

@@ -11,7 +11,7 @@ use Rattle.run_report.specs.declared.fault.Fault.{Fault}
 use Rattle.run_words.specs.Commands.{Text}
 use Rattle.xyz_points.specs.Reading.{and_then, all_or_first_error}
 use Rattle.std.specs.Option.{option_or}
-use Rattle.simlod_app.specs.declared.scan.Reading.{Reading}
+use Rattle.simlod_app.specs.declared.reading.Reading.{Reading}
 use Rattle.simlod_app.specs.Dues.{IsDue}
 use Rattle.simlod_app.specs.Outcomes.{AreSources, IsSource, IsReached}
 use Rattle.simlod_app.specs.Runs.{Source, Framed, cloud_of, first_frame, in_frame, frame_step, framed_in, clouds_of, ◌>>=◌}

@@ -9,7 +9,7 @@ use Rattle.run_report.specs.declared.fault.Fault.{Fault}
 use Rattle.run_report.specs.declared.fault.Fault.TheVariants.{Output, ReadFault, Memory}
 use Rattle.run_words.specs.Commands.{Text}
 use Rattle.run_words.specs.Values.{JobValue}
-use Rattle.simlod_app.specs.declared.scan.Reading.{Reading}
+use Rattle.simlod_app.specs.declared.reading.Reading.{Reading}
 use Rattle.simlod_app.specs.Runs.{Source, reading_of, job_here, clouds_of, words_output}
 use Rattle.simlod_app.specs.Statuses.{status_of}
 use Rattle.simlod_app.specs.declared.status.Status.{Status}

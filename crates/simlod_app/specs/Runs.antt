@@ -32,7 +32,7 @@ use Rattle.run_words.specs.declared.command.CommandName.TheVariants.{Nodes, Boun
 use Rattle.run_words.specs.declared.words.WordsFault.{WordsFault}
 use Rattle.xyz_points.specs.Reading.{xyz, all_or_first_error}
 use Rattle.xyz_points.specs.declared.reader.XyzFault.{XyzFault}
-use Rattle.simlod_app.specs.declared.scan.Reading.{Reading}
+use Rattle.simlod_app.specs.declared.reading.Reading.{Reading}
 use Rattle.simlod_app.specs.RunFaults.{words_fault, xyz_fault, las_fault, span_fault}
 
 infixl 10 ◌>>=◌

@@ -7,7 +7,7 @@ mod faults;
 mod octree;
 mod output;
 mod plain;
-mod scan;
+mod reading;
 mod status;
 mod words;
 

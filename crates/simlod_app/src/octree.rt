@@ -34,7 +34,7 @@ pub fn octree_output(alloc: Global, clouds: Vec<Vec<Point>>, job: &Job) -> Resul
     }
     let ends = batch_ends(alloc, clouds.as_slice(), job.batch)?;
     let points = join(alloc, clouds)?;
-    let cube = root_cube(points.as_slice(), job)?;
+    let cube = root_cube(points.as_slice(), job.cube)?;
     octree_output_in(alloc, points.as_slice(), ends.as_slice(), &cube, job)
 }
 
@@ -53,11 +53,11 @@ fn are_few(clouds: &[Vec<Point>]) -> bool
 }
 
 /// The cube that was given, or the least one round all points, if there is one.
-fn root_cube(points: &[Point], job: &Job) -> Result<Cube, Fault>
+fn root_cube(points: &[Point], given: Option<Cube>) -> Result<Cube, Fault>
     ensures axis { IfErr result HasAxis }
-    ensures gives { Gives (λ cube. cube) result (cube_of job.now.cube points.now) }
+    ensures gives { Gives (λ cube. cube) result (cube_of given points.now) }
 {
-    match job.cube {
+    match given {
         Some(cube) => Ok(cube),
         None => least_cube(points),
     }

@@ -8,7 +8,7 @@ ghost use Rattle.simlod_app.specs.Runs.{Source, job_output, clouds_output, readi
 
 use crate::bounds::bounds_output;
 use crate::octree::octree_output;
-use crate::scan::{Reading, read_clouds};
+use crate::reading::{read_clouds, reading_of};
 use cloud_io::Inputs;
 use cube_math::Point;
 use run_report::Fault;
@@ -26,16 +26,6 @@ pub fn job_output<I: Inputs>(alloc: Global, inputs: &mut I, job: &Job) -> Result
 {
     let clouds = read_clouds(alloc, inputs, job.files.as_slice(), reading_of(job))?;
     clouds_output(alloc, clouds, job)
-}
-
-/// How a job reads its files.
-fn reading_of(job: &Job) -> Reading
-    ensures { result ≡ reading_of job.now }
-{
-    Reading {
-        decimals: job.decimals,
-        low: job.low,
-    }
 }
 
 /// The output of a job with these clouds.

@@ -32,10 +32,19 @@ loop-p-preserved c =
           contained (c.from.ensures ∙ c.octant.ensures.value) (omega (arith, c.octant.ensures.below)) c.loop-p.invariant.counted refl;
       found = found_more c.args.cube.now c.args.points.now c.loop-p.p-index c.cell-cell.result c.p-item.result c.loop-p.cells c.insert-is_new.new.self c.loop-p.invariant.found c.insert-is_new.ensures.cells here next;
       few = elim c.if-is_new.branch [
-        | then-is_new+in_ok-push w ↦ rw w.keys-is (omega (arith, ap length w.in_ok-push.ensures.items, length_push c.loop-p.keys.items c.key_of-key.result,
-            one_cell_more c.cell-cell.result c.loop-p.cells c.insert-is_new.new.self (sym w.if-is_new.true ∙ c.insert-is_new.ensures.new) c.insert-is_new.ensures.cells, c.loop-p.invariant.few))
-        | else-is_new w ↦ rw w.keys-is (omega (arith, length-set c.loop-p.keys.items (get_or c.loop-p.places c.cell-cell.result 0) w.min.result,
-            no_cell_less c.cell-cell.result c.loop-p.cells c.insert-is_new.new.self c.insert-is_new.ensures.cells, c.loop-p.invariant.few))
+        | then-is_new+in_ok-push w ↦ rw w.keys-is (omega (
+          arith,
+          ap length w.in_ok-push.ensures.items,
+          length_push c.loop-p.keys.items c.key_of-key.result,
+          one_cell_more c.cell-cell.result c.loop-p.cells c.insert-is_new.new.self (sym w.if-is_new.true ∙ c.insert-is_new.ensures.new) c.insert-is_new.ensures.cells,
+          c.loop-p.invariant.few,
+        ))
+        | else-is_new w ↦ rw w.keys-is (omega (
+          arith,
+          length-set c.loop-p.keys.items (get_or c.loop-p.places c.cell-cell.result 0) w.min.result,
+          no_cell_less c.cell-cell.result c.loop-p.cells c.insert-is_new.new.self c.insert-is_new.ensures.cells,
+          c.loop-p.invariant.few,
+        ))
       ];
       least = subst (λ (qs : List PointValue). HasLeastKeys c.args.cube.now qs c.if-is_new.places c.if-is_new.keys.items) (sym next) (elim c.if-is_new.branch [
         | then-is_new+in_ok-push w ↦

@@ -5,7 +5,7 @@ ghost use Rattle.las_points.specs.Reading.{las};
 ghost use Rattle.run_report.specs.Faults.{HasAxis};
 ghost use Rattle.simlod_app.specs.Dues.{Gives, GivesOver};
 ghost use Rattle.simlod_app.specs.Outcomes.{AreSources, IsSource, IsReached};
-ghost use Rattle.simlod_app.specs.Runs.{Source, ends_as, is_las, rgb_byte, points_in, or_las_fault, or_xyz_fault, clouds_of, framed_in, beside_frame, frame_step};
+ghost use Rattle.simlod_app.specs.Runs.{Source, ends_as, is_las, rgb_byte, points_in, or_las_fault, or_xyz_fault, clouds_of, framed_in, beside_frame, frame_step, reading_of};
 ghost use Rattle.xyz_points.specs.Reading.{xyz};
 
 use crate::faults;
@@ -13,6 +13,7 @@ use cloud_io::{Inputs, read_all};
 use cube_math::Point;
 use las_points::{LasCloud, RgbByte, read_las};
 use run_report::Fault;
+use run_words::Job;
 use std::alloc::Global;
 use xyz_points::read_xyz;
 
@@ -25,6 +26,16 @@ const MOST_BYTES: u64 = 1_000_000_000;
 pub struct Reading {
     pub decimals: u32,
     pub low: bool,
+}
+
+/// How a job reads its files.
+pub fn reading_of(job: &Job) -> Reading
+    ensures { result ≡ reading_of job.now }
+{
+    Reading {
+        decimals: job.decimals,
+        low: job.low,
+    }
 }
 
 /// The points of a file and, if it is a LAS file, its scales and offsets.

@@ -1,7 +1,7 @@
 use Rattle.std.proofs.Common.{◌≡◌, ◌≤◌, map, take, string_bytes, vec_items}
 use Rattle.std.specs.Prelude.{option_map}
 use Rattle.simlod_app.proofs.Readings.{AreRead}
-use Rattle.simlod_app.proofs.scan.read_clouds.Given as goal
+use Rattle.simlod_app.proofs.reading.read_clouds.Given as goal
 
 abbrev pub invariant-loop-name : goal.invariant-loop-name
 invariant-loop-name g l = record {

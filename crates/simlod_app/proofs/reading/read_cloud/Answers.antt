@@ -1,5 +1,5 @@
 use Rattle.simlod_app.proofs.Files.{not_read, parsed}
-use Rattle.simlod_app.proofs.scan.read_cloud.Goals as goal
+use Rattle.simlod_app.proofs.reading.read_cloud.Goals as goal
 
 pub returns-in-Err-clause-gives : goal.returns-in-Err-clause-gives
 returns-in-Err-clause-gives g c =

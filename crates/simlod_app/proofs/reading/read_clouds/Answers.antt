@@ -9,7 +9,7 @@ use Rattle.simlod_app.specs.Dues.{IsDue}
 use Rattle.simlod_app.specs.Outcomes.{AreSources, IsReached}
 use Rattle.simlod_app.specs.Runs.{Source, Framed, frame_step, clouds_of}
 use Rattle.simlod_app.proofs.Readings.{AreRead, all_read, sources, are_sources, refused_next, refused_frame, one_more_read, split_names, one_name_more, rose_later, told_as_before}
-use Rattle.simlod_app.proofs.scan.read_clouds.Goals as goal
+use Rattle.simlod_app.proofs.reading.read_clouds.Goals as goal
 
 pub returns-in_err-cloud-clause-gives : goal.returns-in_err-cloud-clause-gives
 returns-in_err-cloud-clause-gives g c =

@@ -3,6 +3,7 @@ ghost use Rattle.cube_math.specs.Cubes.{contains};
 
 use crate::{InnerLevel, Level, Levels};
 use cube_math::{Batch, Cube, Path, Point};
+use dice::Dice;
 use leaf_counts::PlanRefusal;
 use octree_plain::{InnerNode, Tree, build};
 use std::alloc::{AllocError, Global};
@@ -78,21 +79,22 @@ const ROWS: [Row; 9] = [
 ];
 
 /// Draws so many points of the lowest `spread` bits on each axis, in one of four colours.
-fn draw(alloc: Global, seed: &mut u64, many: usize, spread: u32) -> Result<Vec<Point>, AllocError> {
+fn draw(
+    alloc: Global,
+    dice: &mut Dice,
+    many: usize,
+    spread: u32,
+) -> Result<Vec<Point>, AllocError> {
     let mut points = Vec::new(alloc);
-    let side = 1u64 << (spread % 13);
+    let side = 1 << (spread % 13);
     for _point in 0..many {
-        *seed = seed
-            .wrapping_mul(6_364_136_223_846_793_005)
-            .wrapping_add(1_442_695_040_888_963_407);
-        let bits = *seed >> 16;
         points.push(Point::new(
-            (bits % side) as i32,
-            (bits / 4096 % side) as i32,
-            (bits / 16_777_216 % side) as i32,
+            dice.below(side) as i32,
+            dice.below(side) as i32,
+            dice.below(side) as i32,
             0,
             0,
-            (bits / 68_719_476_736 % 4) as u8,
+            dice.below(4) as u8,
         ))?;
     }
     Ok(points)
@@ -181,7 +183,7 @@ fn with_batch(
 
 #[test]
 fn batches_give_the_octree_of_all_points(rt: HostRuntime) -> Result<(), Fail> {
-    let mut seed = 2026;
+    let mut dice = Dice::new(2026);
     let mut nodes = 0u32;
     for row in &ROWS {
         let cube = Cube::new(0, 0, 0, row.bits).ok_or("fits")?;
@@ -191,7 +193,7 @@ fn batches_give_the_octree_of_all_points(rt: HostRuntime) -> Result<(), Fail> {
         let mut levels = Levels::new(rt.alloc(), cube, row.leaf)?;
         let mut all = Vec::new(rt.alloc());
         for many in row.sizes {
-            let points = draw(rt.alloc(), &mut seed, *many, row.spread)?;
+            let points = draw(rt.alloc(), &mut dice, *many, row.spread)?;
             all.extend_from_slice(&points)?;
             levels = with_batch(levels, rt.alloc(), &cube, points)?;
             let tree = octree_of(rt.alloc(), &all, cube, row.leaf)?;

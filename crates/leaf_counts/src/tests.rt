@@ -8,6 +8,7 @@ ghost use Rattle.leaf_counts.specs.Skeletons.{skeleton_of};
 
 use crate::{Plan, PlanRefusal, Skeleton, Spill};
 use cube_math::{Batch, Cube, Path, Point};
+use dice::Dice;
 use octree_plain::{Tree, build};
 use std::alloc::{AllocError, Global};
 use std::test::Fail;
@@ -164,18 +165,14 @@ fn one_point_above_the_limit_splits_the_root(rt: HostRuntime) -> Result<(), Fail
 }
 
 /// Draws twenty points of a cube of side 1,024 at the origin, of which many lie near each other.
-fn draw(alloc: Global, seed: &mut u64) -> Result<Vec<Point>, AllocError> {
+fn draw(alloc: Global, dice: &mut Dice) -> Result<Vec<Point>, AllocError> {
     let mut points = Vec::new(alloc);
     for _point in 0..20usize {
-        *seed = seed
-            .wrapping_mul(6_364_136_223_846_793_005)
-            .wrapping_add(1_442_695_040_888_963_407);
-        let bits = *seed >> 32;
-        let side = 1 << (bits % 11);
+        let side = 1 << dice.below(11);
         points.push(Point::new(
-            (bits / 16 % side) as i32,
-            (bits / 4096 % side) as i32,
-            (bits / 1_048_576 % side) as i32,
+            dice.below(side) as i32,
+            dice.below(side) as i32,
+            dice.below(side) as i32,
             0,
             0,
             0,
@@ -223,9 +220,9 @@ fn batches_give_what_all_points_give(rt: HostRuntime) -> Result<(), Fail> {
     let cube = Cube::new(0, 0, 0, 10).ok_or("fits")?;
     let mut skeleton = Skeleton::new(rt.alloc(), cube, 3)?;
     let mut points = Vec::new(rt.alloc());
-    let mut seed = 2025;
+    let mut dice = Dice::new(2025);
     for input in 0..8u32 {
-        let Ok(batch) = Batch::new(input, draw(rt.alloc(), &mut seed)?, &cube, 20) else {
+        let Ok(batch) = Batch::new(input, draw(rt.alloc(), &mut dice)?, &cube, 20) else {
             return Err("no batch".into());
         };
         publish(rt.alloc(), &mut skeleton, &mut points, &batch)?;

@@ -3,6 +3,7 @@ ghost use Rattle.cube_math.specs.Cubes.{contains};
 
 use crate::{Best, Near, merge, prepare};
 use cube_math::{Cube, Point};
+use dice::Dice;
 use occupancy_grid::Grid;
 use octree_model::Voxel;
 use std::alloc::{AllocError, Global};
@@ -78,18 +79,14 @@ impl Spot {
 }
 
 /// Draws some spots and appends them to those drawn before. They lie in 64 cells, so that cells meet often.
-fn draw(alloc: Global, seed: &mut u64, spots: &mut Vec<Spot>) -> Result<Vec<Point>, AllocError> {
+fn draw(alloc: Global, dice: &mut Dice, spots: &mut Vec<Spot>) -> Result<Vec<Point>, AllocError> {
     let mut points = Vec::new(alloc);
     for _point in 0..20usize {
-        *seed = seed
-            .wrapping_mul(6_364_136_223_846_793_005)
-            .wrapping_add(1_442_695_040_888_963_407);
-        let bits = *seed >> 32;
         let spot = Spot {
-            x: (bits % 8) as u8,
-            y: (bits / 8 % 8) as u8,
-            z: (bits / 64 % 8) as u8,
-            rgb: (bits / 512 % 8) as u8,
+            x: dice.below(8) as u8,
+            y: dice.below(8) as u8,
+            z: dice.below(8) as u8,
+            rgb: dice.below(8) as u8,
         };
         spots.push(spot)?;
         points.push(Point::new(
@@ -135,11 +132,11 @@ fn batches_give_what_all_points_give(rt: HostRuntime) -> Result<(), Fail> {
     };
     let mut grid = Grid::new(rt.alloc())?;
     let mut best = Best::new(rt.alloc());
-    let mut seed = 2024;
+    let mut dice = Dice::new(2024);
     let mut spots = Vec::new(rt.alloc());
     let mut entries = Vec::new(rt.alloc());
     for _batch in 0..8usize {
-        let points = draw(rt.alloc(), &mut seed, &mut spots)?;
+        let points = draw(rt.alloc(), &mut dice, &mut spots)?;
         assert!(rt; has_all(&cube, &points));
         let ready = prepare(rt.alloc(), &mut grid, &best, &cube, &points)?;
         let run = merge(&mut grid, &mut best, ready);

@@ -4,7 +4,7 @@ use denote.Struct.Declared.{shape}
 use Rattle.std.proofs.Crossing.{crosses}
 use Rattle.list_filers.proofs.Sent.{filer_send, reader_send}
 use Rattle.chunk_lists.proofs.Sent.{knife_send}
-use Rattle.worked_lists.proofs.dice.Dice.TheSendSync as DiceSent
+use Rattle.dice.proofs.dice.Dice.TheSendSync as DiceSent
 use Rattle.worked_lists.proofs.homes.Homes.TheSendSync as HomesSent
 use Rattle.worked_lists.specs.contracts.owner.Owner as Owner
 use Rattle.worked_lists.specs.contracts.worker.Worker as Worker

@@ -4,10 +4,10 @@ ghost use Rattle.list_filers.specs.Filers.{shared_name};
 ghost use Rattle.chunk_lists.specs.Knives.{lists_of};
 ghost use Rattle.worked_lists.specs.Layouts.{HasRoomFor, IsLaidOut, even_grants};
 
-use crate::dice::Dice;
 use crate::grants::{admit_even, even_grants};
 use crate::worker::Worker;
 use chunk_lists::{Knife, Lists};
+use dice::Dice;
 use list_words::Grant;
 use std::alloc::{AllocError, Global};
 use std::thread;

@@ -2,7 +2,6 @@
 #![tactic(auto)]
 
 mod crowd;
-mod dice;
 mod grants;
 mod homes;
 mod layout;
@@ -12,7 +11,6 @@ mod tests;
 mod worker;
 
 pub use crowd::{Crew, file_at_once, hire};
-pub use dice::Dice;
 pub use grants::{admit_even, even_grants};
 pub use homes::Homes;
 pub use layout::lay_out;

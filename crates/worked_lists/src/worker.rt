@@ -3,8 +3,8 @@ ghost use Rattle.std.specs.Prelude.{◌≡◌, ℕ, ◌<◌, ◌≤◌, ◌^◌,
 ghost use Rattle.list_filers.specs.Filers.{shared_name};
 ghost use Rattle.worked_lists.specs.Workers.{AreLeft};
 
-use crate::dice::Dice;
 use chunk_lists::{Filer, Lists};
+use dice::Dice;
 use list_words::{Answer, SharedFiler};
 use std::alloc::{AllocError, Global};
 use std::marker::{Brand, Model};
@@ -111,7 +111,7 @@ fn choose(dice: &mut Dice, left: &[u32]) -> Option<u32>
     if count == 0 {
         return None;
     }
-    let chosen = dice.below(count);
+    let chosen = dice.below(count as usize) as u32;
     if let Some(list) = first_left(left, chosen, count) {
         return Some(list);
     }

@@ -1,7 +1,6 @@
-ghost use Rattle.std.specs.Prelude.{◌<◌};
-
 use crate::Book;
 use crate::tests::slow_book::SlowBook;
+use dice::Dice;
 use list_words::Grant;
 use std::alloc::{AllocError, Global};
 use std::process::Abort;
@@ -21,32 +20,6 @@ const MOST_CHUNKS: usize = 12;
 const MOST_SLOTS: usize = 300;
 
 const MOST_PLACES: usize = 1000;
-
-/// Numbers that look random and are the same in each run.
-#[derive(Drop)]
-struct Dice {
-    state: u64,
-}
-
-impl Dice {
-    fn roll(&mut self) -> u64 {
-        self.state = self
-            .state
-            .wrapping_mul(6_364_136_223_846_793_005)
-            .wrapping_add(1_442_695_040_888_963_407);
-        self.state >> 32
-    }
-
-    /// A number below n, and 0 where n is 0.
-    fn below(&mut self, n: usize) -> usize
-        ensures { 0 < n → result < n }
-    {
-        if n == 0 {
-            return 0;
-        }
-        self.roll() as usize % n
-    }
-}
 
 /// A book beside a slow one, the lists that are open, and how often what is rare was met.
 #[derive(Drop)]
@@ -71,7 +44,7 @@ impl Walk {
             alloc,
             opened: 0,
             open: Vec::new(alloc),
-            dice: Dice { state: seed },
+            dice: Dice::new(seed),
             grants: 0,
             cleared: 0,
             waited: 0,

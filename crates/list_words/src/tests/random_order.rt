@@ -1,10 +1,9 @@
-ghost use Rattle.std.specs.Prelude.{◌<◌};
-
 use crate::plain_filer::PlainReader;
 use crate::tests::conditions::Conditions;
 use crate::tests::held::Held;
 use crate::tests::slow_lists::SlowLists;
 use crate::{Filed, Grant, LeafLists, PlainLists, Seen};
+use dice::Dice;
 use std::alloc::{AllocError, Global};
 use std::process::Abort;
 use std::test::Fail;
@@ -23,36 +22,6 @@ const MOST_ITEMS: usize = 300;
 const MOST_PLACES: usize = 1000;
 
 const ANSWERS: u32 = 2000;
-
-/// Numbers that look random and are the same in each run.
-#[derive(Drop)]
-struct Dice {
-    state: u64,
-}
-
-impl Dice {
-    fn roll(&mut self) -> u64 {
-        self.state = self
-            .state
-            .wrapping_mul(6_364_136_223_846_793_005)
-            .wrapping_add(1_442_695_040_888_963_407);
-        self.state >> 32
-    }
-
-    /// A number below n, and 0 where n is 0.
-    fn below(&mut self, n: usize) -> usize
-        ensures { 0 < n → result < n }
-    {
-        if n == 0 {
-            return 0;
-        }
-        self.roll() as usize % n
-    }
-
-    fn item(&mut self) -> u32 {
-        (self.roll() % (1 << 32)) as u32
-    }
-}
 
 /// Lists over vectors beside slow ones, and who is out.
 #[derive(Drop)]
@@ -78,7 +47,7 @@ impl Walk {
             open: Vec::new(alloc),
             filers: Vec::new(alloc),
             readers: Vec::new(alloc),
-            dice: Dice { state: seed },
+            dice: Dice::new(seed),
             swept: 0,
             late: 0,
             fewest_free: CHUNKS,
@@ -146,7 +115,7 @@ impl Walk {
             if !self.lists.may_place(list) {
                 return;
             }
-            let item = self.dice.item();
+            let item = self.dice.roll();
             let placed = self.lists.place(list, item);
             assert_eq!(rt; Some(placed), self.slow.fill(list, true, item));
         }
@@ -178,14 +147,14 @@ impl Walk {
     fn file(&mut self, rt: &impl Abort) {
         let place = self.dice.below(self.filers.len());
         for _item in 0..self.dice.below(MOST_ITEMS) {
-            let item = self.dice.item();
+            let item = self.dice.roll();
             let Some(filer) = self.filers.get_mut(place) else {
                 return;
             };
             if let Some((list, filed)) = filer.file_first(&mut self.lists, item) {
                 self.expect_filed(rt, list, item, filed);
             }
-            let item = self.dice.item();
+            let item = self.dice.roll();
             let Some(filer) = self.filers.get_mut(place) else {
                 return;
             };

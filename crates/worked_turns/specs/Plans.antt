@@ -1,5 +1,6 @@
 -- What a pass of a crowd does in its turns.
-use Rattle.std.specs.Prelude.{ℕ, ◌%◌, ◌==◌, if◌then◌else◌, Option, Some, None}
+use Rattle.std.specs.Prelude.{ℕ, pos, ◌%◌, ◌==◌, if◌then◌else◌, Option, Some, None}
+use Rattle.cube_math.specs.Points.{PointValue}
 use Rattle.batch_front.specs.declared.event.Act.{Act}
 use Rattle.batch_front.specs.declared.event.Act.TheVariants.{Admitted, Published, Looked}
 
@@ -10,3 +11,7 @@ planned turn =
     else if turn % 6 == 2 then Some Published
     else if turn % 6 == 4 then Some Looked
     else None
+
+-- the white point of each batch
+abbrev pub white_point : PointValue
+white_point = record { x = pos 1; y = pos 2; z = pos 3; rgb = 16777215 }

@@ -1,8 +1,8 @@
 //! Passes that take turns in threads of their own, by a plan that is the same in each.
-ghost use Rattle.std.specs.Prelude.{◌≡◌, IfOk, IfSome, All, vec_len};
+ghost use Rattle.std.specs.Prelude.{◌≡◌, [], ◌∷◌, IfOk, IfSome, All, vec_len};
 ghost use Rattle.batch_front.specs.Records.{IsPrefix};
 ghost use Rattle.batch_front.specs.Passes.{IsHome};
-ghost use Rattle.worked_turns.specs.Plans.{planned};
+ghost use Rattle.worked_turns.specs.Plans.{planned, white_point};
 
 use crate::log::Log;
 use crate::turn::add_event;
@@ -27,7 +27,8 @@ pub fn planned(turn: u32) -> Option<Act>
 
 /// A batch of one white point, with the number of a turn as that of its input. None where memory is short.
 pub fn batch_of(alloc: Global, turn: u32) -> Option<Batch>
-    ensures { IfSome result (λ b. b.input ≡ turn) }
+    ensures input { IfSome result (λ b. b.input ≡ turn) }
+    ensures points { IfSome result (λ b. b.points ≡ white_point ∷ []) }
 {
     let cube = Cube::new(0, 0, 0, 7)?;
     let points = vec![in alloc; Point::new(1, 2, 3, 255, 255, 255)].ok()?;

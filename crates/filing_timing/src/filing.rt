@@ -1,4 +1,4 @@
-ghost use Rattle.std.specs.Prelude.{◌≡◌, ◌<◌, ◌*◌, ◌≤◌, All, IfOk};
+ghost use Rattle.std.specs.Prelude.{◌≡◌, ◌<◌, ◌*◌, ◌≤◌, All, IfOk, vec_len};
 ghost use Rattle.list_filers.specs.Filers.{shared_name};
 
 use crate::task::Task;
@@ -52,7 +52,8 @@ fn begin(
     requires lists { lists ≤ 1000 }
     requires chunks { chunks ≤ 1000000 }
     requires all { lists * chunks ≤ 1000000 }
-    ensures { IfOk result (λ r. All (λ w. w.name ≡ shared_name r.0.value) r.1.items) }
+    ensures names { IfOk result (λ r. All (λ w. w.name ≡ shared_name r.0.value) r.1.items) }
+    ensures count { IfOk result (λ r. vec_len r.1 ≡ threads) }
 {
     let (shared, mut knife) = lay_out(alloc, lists, chunks)?;
     let crew = Crew {

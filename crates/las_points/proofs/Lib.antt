@@ -1,3 +1,3 @@
 mod Examples
-pub mod ReadingLemmas
-pub mod RecordLemmas
+pub mod ReadingLaws
+pub mod RecordLaws

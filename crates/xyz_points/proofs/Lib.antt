@@ -1,9 +1,9 @@
 pub mod Cuts
-pub mod DecimalLemmas
+pub mod DecimalLaws
 pub mod Examples
-pub mod FieldLemmas
-pub mod FloorLemmas
-pub mod LineLemmas
-pub mod NumberLemmas
-pub mod ReadingLemmas
-pub mod ScaleLemmas
+pub mod FieldLaws
+pub mod FloorLaws
+pub mod LineLaws
+pub mod NumberLaws
+pub mod ReadingLaws
+pub mod ScaleLaws

@@ -1,5 +1,5 @@
 use Rattle.std.proofs.lemmas.Result.{err_from_is_err_and}
-use Rattle.las_points.proofs.ReadingLemmas.{IsFault-refused, las-accepted}
+use Rattle.las_points.proofs.ReadingLaws.{IsFault-refused, las-accepted}
 use Rattle.las_points.proofs.reader.read_las.Goals as goal
 
 pub returns-in_err-table-clause-fault : goal.returns-in_err-table-clause-fault

@@ -1,6 +1,6 @@
 use Rattle.std.proofs.Common.{◌≡◌, ◌+◌, ◌*◌, length, arith}
 use Rattle.las_points.specs.Fields.{points_start, record_length}
-use Rattle.las_points.proofs.RecordLemmas.{AreBytes, record_held, colour_place-below, record_point-places, first_points-more}
+use Rattle.las_points.proofs.RecordLaws.{AreBytes, record_held, colour_place-below, record_point-places, first_points-more}
 use Rattle.las_points.proofs.records.read_points.Goals as goal
 
 pub record_point-requires : goal.record_point-requires

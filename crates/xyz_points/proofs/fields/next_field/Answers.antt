@@ -1,6 +1,6 @@
 use Rattle.std.proofs.Common.{sym, ◌∙◌, ◌+◌, drop}
 use Rattle.std.proofs.lemmas.List.{take_rest}
-use Rattle.xyz_points.proofs.FieldLemmas.{no_field, last_field, first_field}
+use Rattle.xyz_points.proofs.FieldLaws.{no_field, last_field, first_field}
 use Rattle.xyz_points.proofs.fields.next_field.Goals as goal
 
 pub returns-in_err-line-clause-none : goal.returns-in_err-line-clause-none

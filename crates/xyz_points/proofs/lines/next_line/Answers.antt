@@ -1,6 +1,6 @@
 use Rattle.std.proofs.Common.{◌∙◌, sym, ap, List, ℕ, ◌∷◌, []}
 use Rattle.std.proofs.lemmas.List.{take_rest}
-use Rattle.xyz_points.proofs.LineLemmas.{last_line, first_line}
+use Rattle.xyz_points.proofs.LineLaws.{last_line, first_line}
 use Rattle.xyz_points.proofs.lines.next_line.Goals as goal
 
 pub returns-in-None-clause-some : goal.returns-in-None-clause-some

@@ -1,6 +1,6 @@
 use Rattle.std.proofs.Common.{◌∙◌, ◌+◌, sym, ap, Ok, cond, to_z-of_z, FitsSigned}
 use Rattle.std.specs.Int.{w32}
-use Rattle.xyz_points.proofs.FloorLemmas.{BelowZero, in_range_below, negative_fits, one_away, out_of_range_below}
+use Rattle.xyz_points.proofs.FloorLaws.{BelowZero, in_range_below, negative_fits, one_away, out_of_range_below}
 use Rattle.xyz_points.proofs.numbers.coordinate.Goals as goal
 
 pub returns-then-away : goal.returns-then-away

@@ -2,7 +2,7 @@ use Rattle.std.proofs.Common.{sym, ◌∙◌, ap, arith, ◌≡◌, ◌^◌, min
 use Rattle.std.specs.Char.{is_ascii_digit}
 use Rattle.std.specs.List.{prefix_len}
 use Rattle.xyz_points.specs.Numbers.{number_after}
-use Rattle.xyz_points.proofs.NumberLemmas.{run_at, all_run}
+use Rattle.xyz_points.proofs.NumberLaws.{run_at, all_run}
 use Rattle.xyz_points.proofs.numbers.digits_after.Goals as goal
 
 pub returns-then-not-is_ascii_digit-clause-count :

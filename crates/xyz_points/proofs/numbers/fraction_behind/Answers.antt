@@ -3,7 +3,7 @@ use Rattle.std.specs.Char.{is_ascii_digit}
 use Rattle.std.specs.List.{prefix_len}
 use Rattle.std.proofs.lemmas.List.{drop_all, take_rest}
 use Rattle.std.proofs.lemmas.List.Sums.{prefix_len-le-length}
-use Rattle.xyz_points.proofs.DecimalLemmas.{no_decimal, no_fraction, point_behind}
+use Rattle.xyz_points.proofs.DecimalLaws.{no_decimal, no_fraction, point_behind}
 use Rattle.xyz_points.proofs.numbers.fraction_behind.Goals as goal
 
 pub bounds-text-whole : goal.bounds-text-whole

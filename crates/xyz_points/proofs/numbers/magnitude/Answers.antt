@@ -5,9 +5,9 @@ use Rattle.std.proofs.lemmas.List.{length-take, take_rest}
 use Rattle.std.proofs.lemmas.List.Folds.{length-prefix_len}
 use Rattle.std.proofs.lemmas.List.Sums.{prefix_len-le-length}
 use Rattle.xyz_points.specs.Numbers.{denominator, is_numeral, number, numerator, without_point}
-use Rattle.xyz_points.proofs.DecimalLemmas.{all_digits, bad_dropped, bad_kept, kept_value}
-use Rattle.xyz_points.proofs.NumberLemmas.{run_passes, ten_pow_pos}
-use Rattle.xyz_points.proofs.ScaleLemmas.{exact_of, floor_of, product_capped}
+use Rattle.xyz_points.proofs.DecimalLaws.{all_digits, bad_dropped, bad_kept, kept_value}
+use Rattle.xyz_points.proofs.NumberLaws.{run_passes, ten_pow_pos}
+use Rattle.xyz_points.proofs.ScaleLaws.{exact_of, floor_of, product_capped}
 use Rattle.xyz_points.proofs.numbers.magnitude.Goals as goal
 
 pub returns-then-digits-kept-clause-none : goal.returns-then-digits-kept-clause-none

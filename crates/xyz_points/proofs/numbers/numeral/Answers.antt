@@ -2,8 +2,8 @@ use Rattle.std.proofs.Common.{◌≤◌, arith, length}
 use Rattle.std.specs.Char.{is_ascii_digit}
 use Rattle.std.specs.List.{prefix_len}
 use Rattle.std.proofs.lemmas.List.Sums.{prefix_len-le-length}
-use Rattle.xyz_points.proofs.DecimalLemmas.{no_numeral, numeral}
-use Rattle.xyz_points.proofs.NumberLemmas.{all_pass, not_all_pass}
+use Rattle.xyz_points.proofs.DecimalLaws.{no_numeral, numeral}
+use Rattle.xyz_points.proofs.NumberLaws.{all_pass, not_all_pass}
 use Rattle.xyz_points.proofs.numbers.numeral.Goals as goal
 
 pub returns-then-digits-text-clause-none : goal.returns-then-digits-text-clause-none

@@ -1,6 +1,6 @@
 use Rattle.std.proofs.Common.{◌∙◌, ◌+◌, Some, sym, ap, arith}
 use Rattle.xyz_points.specs.Lines.{lines_of}
-use Rattle.xyz_points.proofs.ReadingLemmas.{at_point, at_start, behind_points, lines_reading}
+use Rattle.xyz_points.proofs.ReadingLaws.{at_point, at_start, behind_points, lines_reading}
 use Rattle.xyz_points.proofs.reader.read_xyz.Goals as goal
 
 pub loop-text-init : goal.loop-text-init

@@ -1,7 +1,7 @@
 use Rattle.std.proofs.Common.{◌≡◌, ◌≤◌, ◌+◌, length}
 use Rattle.xyz_points.specs.Lines.{lines_of}
 use Rattle.xyz_points.specs.Reading.{xyz}
-use Rattle.xyz_points.proofs.ReadingLemmas.{behind_points, lines_reading}
+use Rattle.xyz_points.proofs.ReadingLaws.{behind_points, lines_reading}
 use Rattle.xyz_points.proofs.reader.read_xyz.Given as goal
 
 abbrev pub invariant-loop-text : goal.invariant-loop-text

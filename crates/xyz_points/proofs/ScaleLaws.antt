@@ -7,7 +7,7 @@ use Rattle.std.proofs.lemmas.Bool.{cases_eq, cases_lt, ne_eqb}
 use Rattle.std.proofs.lemmas.Nat.{div-add-mod', div-mul-add, pow-add}
 use Rattle.std.proofs.lemmas.List.{length-drop, take-append-drop}
 use Rattle.xyz_points.specs.Numbers.{number}
-use Rattle.xyz_points.proofs.NumberLemmas.{number-append, number_shift, number-lt, ten_pow_pos, zeros_write_zero}
+use Rattle.xyz_points.proofs.NumberLaws.{number-append, number_shift, number-lt, ten_pow_pos, zeros_write_zero}
 
 -- a number and its last places, moved up by the places that are kept and those that are filled up, of which there are none where places are dropped
 floor_parts : (a b E P K : ℕ) → (P ≡ 1) ⊎ (E ≡ 1) → 0 < E → 0 < K → b < E → (a * E + b) * (K * P) / (K * E) ≡ a * P

@@ -8,7 +8,7 @@ use Rattle.std.proofs.lemmas.List.Folds.{list_all-append, list_all_at}
 use Rattle.std.proofs.lemmas.List.Sums.{passes_at_first, position_or_len_is, prefix_len_passes, prefix_len_stops}
 use Rattle.std.proofs.Math.Seq.{take-length}
 use Rattle.xyz_points.specs.Numbers.{is_numeral, is_point, fraction, number, number_after, without_point}
-use Rattle.xyz_points.proofs.NumberLemmas.{IsDigit, digit, all_pass, not_all_pass, number-append, number_capped}
+use Rattle.xyz_points.proofs.NumberLaws.{IsDigit, digit, all_pass, not_all_pass, number-append, number_capped}
 
 -- a text is no numeral where a byte is no digit
 pub no_numeral : (text : List ℕ) → list_all is_ascii_digit text ≡ false → is_numeral text ≡ false

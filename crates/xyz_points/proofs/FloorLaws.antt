@@ -7,7 +7,7 @@ use Rattle.std.proofs.Math.Nat.{zero-div, zero-mod}
 use Rattle.std.proofs.lemmas.Nat.{div-add-mod', div-mul-add, mod_below}
 use Rattle.xyz_points.specs.declared.numbers.FieldFault.TheVariants.{Malformed, OutOfRange}
 use Rattle.xyz_points.specs.Numbers.{coordinate, fits_i32, fraction, is_decimal, is_numeral, coordinate_value, denominator, numerator, signed_value, without_point}
-use Rattle.xyz_points.proofs.NumberLemmas.{ten_pow_pos}
+use Rattle.xyz_points.proofs.NumberLaws.{ten_pow_pos}
 
 -- the quotient of one more
 suc_over : (a m : ℕ) → 0 < m → suc a / m + cond (suc a % m == 0) 0 1 ≡ suc (a / m)

@@ -10,9 +10,6 @@ use std::thread::Threads;
 use std::time::{Clock, Duration, Instant};
 use worked_lists::{Crew, Worker, file_at_once, hire, lay_out};
 
-/// More items than a worker has places for.
-const MOST_ITEMS: u32 = 1 << 26;
-
 /// Files as many items as there are places for, in the way of the task. Tells how many came to stand, and how long it
 /// took.
 pub fn filed<R: Clock + Threads + Sync + AllocGlobal>(
@@ -56,12 +53,13 @@ fn begin(
     ensures count { IfOk result (λ r. vec_len r.1 ≡ threads) }
 {
     let (shared, mut knife) = lay_out(alloc, lists, chunks)?;
+    let places = 256 * chunks / threads;
     let crew = Crew {
         lists,
-        places: 256 * chunks / threads,
+        places,
         workers: threads,
         first: 0,
-        share: MOST_ITEMS,
+        share: lists * places,
         seed: 1,
     };
     let workers = hire(alloc, &mut knife, crew)?;

@@ -83,7 +83,7 @@ impl Canvas {
     }
 
     /// Draws the items of the nodes of an octree that are in the camera's cut. What lies below a node of
-    /// the cut, and what lies above, costs nothing.
+    /// the cut is not looked at, and of what lies above nothing is drawn.
     pub fn draw_octree(&mut self, tree: &Tree, cube: &Cube)
         requires { IsOctreeIn cube.now tree.now }
         ensures camera { self.new.camera ≡ self.old.camera }

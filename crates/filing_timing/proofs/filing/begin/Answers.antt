@@ -1,6 +1,13 @@
 use Rattle.std.proofs.Common.{◌≡◌, ◌*◌, ◌/◌, ◌≤◌, ℕ, arith}
-use Rattle.std.proofs.Math.Nat.{mul-div-le, mul-le-mul_left, mul_left_comm}
+use Rattle.std.proofs.Math.Nat.{div-le_self, mul-div-le, mul-le-mul_left, mul_left_comm}
 use Rattle.filing_timing.proofs.filing.begin.Goals as goal
+
+pub overflow_mul-crew : goal.overflow_mul-crew
+overflow_mul-crew c =
+    let a = c.args in
+    let all : a.lists * (256 * a.chunks / a.threads) ≤ a.lists * (256 * a.chunks) = mul-le-mul_left a.lists (div-le_self (256 * a.chunks) a.threads) in
+    let turned : a.lists * (256 * a.chunks) ≡ 256 * (a.lists * a.chunks) = mul_left_comm a.lists 256 a.chunks in
+    omega (arith, all, turned, c.requires.all)
 
 pub hire-requires : goal.hire-requires
 hire-requires c =

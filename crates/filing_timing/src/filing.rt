@@ -1,4 +1,5 @@
-ghost use Rattle.std.specs.Prelude.{◌≡◌, ◌<◌, ◌*◌, ◌≤◌, All, IfOk, vec_len};
+ghost use Rattle.std.specs.Prelude.{◌≡◌, ◌<◌, ◌*◌, ◌≤◌, All, IfOk, min, sum_by, vec_len};
+ghost use Rattle.filing_timing.specs.Standing.{standing_in};
 ghost use Rattle.list_filers.specs.Filers.{shared_name};
 
 use crate::task::Task;
@@ -66,8 +67,10 @@ fn begin(
     Ok((shared, workers))
 }
 
-/// How many items came to stand.
-fn standing(workers: &[Worker]) -> usize {
+/// How many items came to stand, or the most that a count holds.
+fn standing(workers: &[Worker]) -> usize
+    ensures { result ≡ min (sum_by (λ w. standing_in w.answers) workers.now) 18446744073709551615 }
+{
     let mut count = 0usize;
     for worker in workers {
         count = count.saturating_add(at_home(worker.answers()));
@@ -76,7 +79,9 @@ fn standing(workers: &[Worker]) -> usize {
 }
 
 /// How many answers are that an item stands.
-fn at_home(answers: &[Answer]) -> usize {
+fn at_home(answers: &[Answer]) -> usize
+    ensures { result ≡ standing_in answers.now }
+{
     answers
         .iter()
         .filter(|answer| matches!(answer.filed, Filed::At { .. }))

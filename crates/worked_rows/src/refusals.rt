@@ -147,7 +147,9 @@ fn every_failing_call_names_its_file(rt: HostRuntime) -> Result<(), Fail> {
             let said = if call < 4 { first } else { second };
             let mut outside = sound(alloc);
             outside.inputs.push(call)?;
-            run_in(alloc, line, &files, outside)?.expect_refusal(&rt, Status::ReadFault, said);
+            let outcome = run_in(alloc, line, &files, outside)?;
+            assert_eq!(rt; outcome.status, Status::ReadFault, "call {call} of {line}");
+            outcome.expect_refusal(&rt, Status::ReadFault, said);
         }
         let mut outside = sound(alloc);
         outside.inputs.push(7)?;

@@ -66,18 +66,13 @@ comes c qs p z y here old h = elim (cases_eq z y) [
   | inr other ↦ old_cell c qs p y (λ e. other (here ∙ e)) h
 ]
 
--- what a cell other than the new point's keeps: it is one of the cells so far, and has its least key there
-record OtherCell (c : CubeValue) (qs : List PointValue) (p : PointValue) (places keys : List ℕ) (y : ℕ) : Type 0 where
-  old : has y (map (cell c) qs) ≡ true
-  small : y < 2 ^ 21
-  within : get_or places y 0 < length keys
-  least_key : least (cell_keys c (qs ++ p ∷ []) y) ≡ Some (get_or keys (get_or places y 0) 0)
-
-stays : (c : CubeValue) (qs : List PointValue) (p : PointValue) (places keys : List ℕ) (y : ℕ) → cell c p ≢ y → has y (map (cell c) (qs ++ p ∷ [])) ≡ true → HasLeastKeys c qs places keys → OtherCell c qs p places keys y
+-- a cell other than the new point's is one of the cells so far, and has its least key where it had it
+stays : (c : CubeValue) (qs : List PointValue) (p : PointValue) (places keys : List ℕ) (y : ℕ) → cell c p ≢ y → has y (map (cell c) (qs ++ p ∷ [])) ≡ true → HasLeastKeys c qs places keys
+    → (has y (map (cell c) qs) ≡ true) × HasLeastKey c (qs ++ p ∷ []) places keys y
 stays c qs p places keys y there h before =
     let old : has y (map (cell c) qs) ≡ true = old_cell c qs p y there h in
     let found : HasLeastKey c qs places keys y = before.each y old in
-    record { old = old; small = found.small; within = found.within; least_key = least_elsewhere c qs p y there ∙ found.least_key }
+    (old, record { small = found.small; within = found.within; least_key = least_elsewhere c qs p y there ∙ found.least_key })
 
 -- one point more, in a cell that is new: it gets the next place
 pub key_in_new_cell : (c : CubeValue) (qs : List PointValue) (p : PointValue) (places keys keys' : List ℕ) (z k at : ℕ) → z < length places → z < 2 ^ 21 → z ≡ cell c p → k ≡ key c p
@@ -95,14 +90,14 @@ key_in_new_cell c qs p places keys keys' z k at in_table small here is new end p
               least_key = rw (sym same) (least_key ∙ ap (λ n. Some (get_or keys' n 0)) (sym (own z refl)));
             }
         | inr other ↦
-            let kept : OtherCell c qs p places keys y = stays c qs p places keys y (λ e. other (here ∙ e)) h before in
+            let kept = stays c qs p places keys y (λ e. other (here ∙ e)) h before in
             let place : get_or (set places z at) y 0 ≡ get_or places y 0 = theirs y other in
             let same_key : get_or keys' (get_or places y 0) 0 ≡ get_or keys (get_or places y 0) 0 =
-            ap (λ (ks : List ℕ). get_or ks (get_or places y 0) 0) pushed ∙ get_or_append_left keys (k ∷ []) 0 (get_or places y 0) kept.within in
+            ap (λ (ks : List ℕ). get_or ks (get_or places y 0) 0) pushed ∙ get_or_append_left keys (k ∷ []) 0 (get_or places y 0) kept.1.within in
             record {
-              small = kept.small;
-              within = omega (arith, place, longer, kept.within);
-              least_key = kept.least_key ∙ ap Some (sym (ap (λ n. get_or keys' n 0) place ∙ same_key));
+              small = kept.1.small;
+              within = omega (arith, place, longer, kept.1.within);
+              least_key = kept.1.least_key ∙ ap Some (sym (ap (λ n. get_or keys' n 0) place ∙ same_key));
             }
       ];
       apart = λ x y hx hy e. elim (cases_eq z x) [
@@ -113,9 +108,9 @@ key_in_new_cell c qs p places keys keys' z k at in_table small here is new end p
         | inr other ↦ elim (cases_eq z y) [
           | inl same ↦ absurd (behind y x same other hx (sym e))
           | inr other' ↦
-              let kept : OtherCell c qs p places keys x = stays c qs p places keys x (λ q. other (here ∙ q)) hx before in
-              let kept' : OtherCell c qs p places keys y = stays c qs p places keys y (λ q. other' (here ∙ q)) hy before in
-              before.apart x y kept.old kept'.old (sym (theirs x other) ∙ e ∙ theirs y other')
+              let kept = stays c qs p places keys x (λ q. other (here ∙ q)) hx before in
+              let kept' = stays c qs p places keys y (λ q. other' (here ∙ q)) hy before in
+              before.apart x y kept.0 kept'.0 (sym (theirs x other) ∙ e ∙ theirs y other')
         ]
       ];
     }
@@ -135,10 +130,10 @@ key_in_new_cell c qs p places keys keys' z k at in_table small here is new end p
     -- no other cell has the new place
     behind : (x y : ℕ) → z ≡ x → z ≢ y → has y (map (cell c) (qs ++ p ∷ [])) ≡ true → get_or (set places z at) x 0 ≡ get_or (set places z at) y 0 → ⊥
     behind x y same other h e =
-        let kept : OtherCell c qs p places keys y = stays c qs p places keys y (λ q. other (here ∙ q)) h before in
+        let kept = stays c qs p places keys y (λ q. other (here ∙ q)) h before in
         let place : get_or (set places z at) x 0 ≡ at = own x same in
         let place' : get_or (set places z at) y 0 ≡ get_or places y 0 = theirs y other in
-        absurd (omega (arith, place, place', e, end, kept.within))
+        absurd (omega (arith, place, place', e, end, kept.1.within))
 
 -- one point more, in a cell that has a key: the lesser one stays
 pub key_in_old_cell : (c : CubeValue) (qs : List PointValue) (p : PointValue) (places keys : List ℕ) (z k at m : ℕ) → z ≡ cell c p → k ≡ key c p
@@ -155,12 +150,12 @@ key_in_old_cell c qs p places keys z k at m here is old place lesser_one before 
             least_here c qs p z (sym here) ∙ ap Some (sym (ap (λ n. get_or (set keys at m) n 0) (sym place) ∙ get_or-set_same keys at m 0 within ∙ is_least)) in
             rw (sym same) (record { small = found.small; within = omega (arith, place, found.within, length-set keys at m); least_key = least_key })
         | inr other ↦
-            let kept : OtherCell c qs p places keys y = stays c qs p places keys y (λ e. other (here ∙ e)) h before in
-            let elsewhere : get_or places y 0 ≢ at = λ e. other (sym (before.apart y z kept.old old (e ∙ place))) in
+            let kept = stays c qs p places keys y (λ e. other (here ∙ e)) h before in
+            let elsewhere : get_or places y 0 ≢ at = λ e. other (sym (before.apart y z kept.0 old (e ∙ place))) in
             record {
-              small = kept.small;
-              within = omega (arith, kept.within, length-set keys at m);
-              least_key = kept.least_key ∙ ap Some (sym (get_or-set_other keys at (get_or places y 0) m 0 elsewhere));
+              small = kept.1.small;
+              within = omega (arith, kept.1.within, length-set keys at m);
+              least_key = kept.1.least_key ∙ ap Some (sym (get_or-set_other keys at (get_or places y 0) m 0 elsewhere));
             }
       ];
       apart = λ x y hx hy e. before.apart x y (comes c qs p z x here old hx) (comes c qs p z y here old hy) e;

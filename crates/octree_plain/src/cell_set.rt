@@ -35,7 +35,7 @@ impl CellSet {
         })
     }
 
-    /// Puts a cell into the set. Answers whether it was not there before.
+    /// Puts a cell into the set. Answers whether it was not there before. No set has more than 2^21 cells.
     pub fn insert(&mut self, cell: u32) -> bool
         requires { cell < 2 ^ 21 }
         ensures new { result ≡ not (has cell self.old) }

@@ -86,7 +86,7 @@ impl Sampler {
 }
 
 /// Finds the cells in which points fall and the least key of each of them, and counts the points of
-/// each octant. Where memory runs out it leaves the cells that it had found.
+/// each octant. Where memory runs out, what it left of cells and keys is of no use.
 fn find_cells(
     cells: &mut CellSet,
     places: &mut [u32],

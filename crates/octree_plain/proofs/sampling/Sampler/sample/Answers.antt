@@ -6,6 +6,10 @@ use Rattle.octree_plain.specs.Sampling.{HasLeastKeys}
 use Rattle.octree_plain.proofs.LeastKeys.{cells_are_small, cells_have_places, coloured_cells}
 use Rattle.octree_plain.proofs.sampling.Sampler.sample.Goals as goal
 
+-- a vector that was written to in its whole length has what was written
+whole : (n : ℕ) (new old : List ℕ) → n ≡ length new → take n (new ++ drop (length new) old) ≡ new
+whole n new old e = ap (λ m. take m (new ++ drop (length new) old)) e ∙ take-append_seam new (drop (length new) old)
+
 pub coloured-requires-clause-small : goal.coloured-requires-clause-small
 coloured-requires-clause-small c =
     let cells : c.deref.result.now ≡ ascending (map (cell c.args.cube.now) c.args.points.now) = c.deref.ensures.value ∙ c.in_ok-cells.ensures.cells ∙ c.in_ok-octants.ensures.cells in
@@ -14,14 +18,14 @@ coloured-requires-clause-small c =
 pub coloured-requires-clause-placed : goal.coloured-requires-clause-placed
 coloured-requires-clause-placed c =
     let cells : c.deref.result.now ≡ ascending (map (cell c.args.cube.now) c.args.points.now) = c.deref.ensures.value ∙ c.in_ok-cells.ensures.cells ∙ c.in_ok-octants.ensures.cells in
-    let places : c.deref-2.result.now ≡ c.find_cells.new.places = c.deref-2.ensures.value ∙ ap (λ m. take m (c.find_cells.new.places ++ drop (length c.find_cells.new.places) c.self.inside.places.items)) (omega arith) ∙ take-append_seam c.find_cells.new.places (drop (length c.find_cells.new.places) c.self.inside.places.items) in
+    let places : c.deref-2.result.now ≡ c.find_cells.new.places = c.deref-2.ensures.value ∙ whole _ _ _ (omega arith) in
     subst (λ (t : List ℕ). (k d : ℕ) → k < length c.deref.result.now → get_or t (get_or c.deref.result.now k d) 0 < length c.deref-3.result.now) (sym places)
     (rw c.deref-3.ensures.value (cells_have_places c.args.cube.now c.args.points.now c.deref.result.now _ _ cells c.in_ok-octants.ensures.least_keys))
 
 pub returns-clause-voxels : goal.returns-clause-voxels
 returns-clause-voxels c =
     let cells : c.deref.result.now ≡ ascending (map (cell c.args.cube.now) c.args.points.now) = c.deref.ensures.value ∙ c.in_ok-cells.ensures.cells ∙ c.in_ok-octants.ensures.cells in
-    let places : c.deref-2.result.now ≡ c.find_cells.new.places = c.deref-2.ensures.value ∙ ap (λ m. take m (c.find_cells.new.places ++ drop (length c.find_cells.new.places) c.self.inside.places.items)) (omega arith) ∙ take-append_seam c.find_cells.new.places (drop (length c.find_cells.new.places) c.self.inside.places.items) in
+    let places : c.deref-2.result.now ≡ c.find_cells.new.places = c.deref-2.ensures.value ∙ whole _ _ _ (omega arith) in
     let keys : c.deref-3.result.now ≡ c.find_cells.new.keys.items = c.deref-3.ensures.value in
     let table : HasLeastKeys c.args.cube.now c.args.points.now c.deref-2.result.now c.deref-3.result.now = rw (places, keys) c.in_ok-octants.ensures.least_keys in
     c.in_ok-coloured.ensures ∙ coloured_cells c.args.cube.now c.args.points.now _ _ _ cells table

@@ -7,10 +7,10 @@ use lib.ListN.{get_elem?}
 use mathlib.Core.Logic.{dite}
 use native.Mathlib.Decide.{ℕ_discrete}
 use Rattle.atomic_table.specs.Table.{Final, Seen}
-use Rattle.batch_front.specs.Records.{Record}
+use Rattle.record_model.specs.Records.{Record}
 use Rattle.batch_front.specs.Turns.{At, total, Each, tickets, weight, Stands, Kept, Sat, IsGathering}
 use Rattle.batch_front.specs.Passes.{PassValue, card_of, IsIn}
-use Rattle.batch_front.specs.declared.event.Event.{Event}
+use Rattle.record_model.specs.declared.event.Event.{Event}
 use Rattle.batch_front.specs.declared.rule.Card.{Card}
 use Rattle.batch_front.specs.declared.rule.Place.TheVariants.{Away, Holds}
 use Rattle.batch_front.specs.declared.rule.View.{View}

@@ -1,5 +1,4 @@
 pub mod Closing
-pub mod Examples
 pub mod Lists
 pub mod Numbers
 pub mod Opening

@@ -6,9 +6,9 @@ use Rattle.std.specs.List.{range_with_len}
 use Rattle.std.proofs.lemmas.Bool.{le-leb}
 use Rattle.std.proofs.lemmas.List.{map-append, length-append}
 use Rattle.std.proofs.lemmas.List.Elements.{filter-append}
-use Rattle.batch_front.specs.Records.{Record, IsPrefix, own}
+use Rattle.record_model.specs.Records.{Record, IsPrefix, own}
 use Rattle.batch_front.specs.Turns.{total, Each, longer}
-use Rattle.batch_front.specs.declared.event.Event.{Event}
+use Rattle.record_model.specs.declared.event.Event.{Event}
 
 -- 1 for the number k, and else 0
 abbrev pub is : ℕ → ℕ → ℕ

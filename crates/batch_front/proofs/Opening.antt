@@ -4,7 +4,7 @@ use Rattle.std.specs.Prelude.{Some}
 use Rattle.std.specs.List.{range_with_len}
 use mathlib.Core.Option.{some-injective, some-ne-none}
 use Rattle.atomic_table.specs.Table.{opening}
-use Rattle.batch_front.specs.Records.{Record}
+use Rattle.record_model.specs.Records.{Record}
 use Rattle.batch_front.specs.Turns.{At, total, Each, Has, weight, new_card, hand_view, first_view, Stands, Fits, Kept}
 use Rattle.batch_front.specs.declared.rule.Place.{Place}
 use Rattle.batch_front.specs.declared.rule.View.{View}

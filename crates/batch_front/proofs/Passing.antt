@@ -1,15 +1,14 @@
 -- What a pass says of its seat, and back.
 use Rattle.std.proofs.Common.{◌≡◌, ◌≢◌, ◌≤◌, ◌+◌, ◌↔◌, ℕ, max, Bool, true, false, cond, nat_le, List, [], ◌∷◌, ◌++◌, length, refl, sym, ap, ◌∙◌, subst, arith}
 use Rattle.std.specs.Prelude.{Option, Some, None, IsNone, option_map}
-use Rattle.std.proofs.lemmas.List.{length-append}
-use Rattle.std.proofs.lemmas.List.Elements.{filter_map-append}
 use Rattle.cube_math.specs.Batches.{BatchValue}
-use Rattle.batch_front.specs.Records.{Record, IsPrefix, journal, entry_of, event_of, publications}
+use Rattle.record_model.specs.Records.{Record, IsPrefix, journal, event_of, publications}
+use Rattle.record_model.proofs.RecordLaws.{length-journal}
 use Rattle.batch_front.specs.Turns.{Sat, Each, card, pass_view, first_seen, longer, adding, hearer, comparing, IsAway, IsHolding}
 use Rattle.batch_front.specs.Passes.{turn_of, taken, first_mine, IsPass, IsNews}
-use Rattle.batch_front.specs.declared.event.Act.{Act}
-use Rattle.batch_front.specs.declared.event.Act.TheVariants.{Admitted, Published, Looked}
-use Rattle.batch_front.specs.declared.event.Event.{Event}
+use Rattle.record_model.specs.declared.event.Act.{Act}
+use Rattle.record_model.specs.declared.event.Act.TheVariants.{Admitted, Published, Looked}
+use Rattle.record_model.specs.declared.event.Event.{Event}
 use Rattle.batch_front.specs.declared.rule.Card.{Card}
 use Rattle.batch_front.specs.declared.rule.Place.{Place}
 use Rattle.batch_front.specs.declared.rule.Place.TheVariants.{Away, Waits, Holds}
@@ -24,12 +23,8 @@ held_is Away t e = absurd (cc)
 held_is (Waits x) t e = absurd (cc)
 held_is (Holds x) t e = let z : x ≡ t = cc in ap (λ (y : ℕ). Holds y) z
 
--- the publications of a record that goes on
-pub journal-append : (xs ys : Record) → length (journal (xs ++ ys)) ≡ length (journal xs) + length (journal ys)
-journal-append xs ys = ap length (filter_map-append entry_of xs ys) ∙ length-append (journal xs) (journal ys)
-
 prefix_le : (xs ys : Record) → IsPrefix xs ys → length (journal xs) ≤ length (journal ys)
-prefix_le xs ys p = let a = journal-append xs p.0 in let b : length (journal (xs ++ p.0)) ≡ length (journal ys) = ap (λ (l : Record). length (journal l)) p.1 in omega arith
+prefix_le xs ys p = let a = length-journal xs p.0 in let b : length (journal (xs ++ p.0)) ≡ length (journal ys) = ap (λ (l : Record). length (journal l)) p.1 in omega arith
 
 known_longer : (xs ys : Record) → IsPrefix xs (longer xs ys) → IsPrefix ys (longer xs ys) → length (journal (longer xs ys)) ≡ max (length (journal xs)) (length (journal ys))
 known_longer xs ys p q = by (nat_le (length ys) (length xs)) p q where
@@ -67,7 +62,7 @@ module _ {S V : Type 0} (site : S) (number known : ℕ) (me : Sat S V) (h : IsPa
 
     pub added_pass : (known' : ℕ) → known + length (journal ((e, number) ∷ [])) ≡ known' → IsPass site number known' m
     added_pass known' k = is_pass (first_seen me.0.cards ++ (e, number) ∷ []) (first_mine me.0.cards ++ e ∷ []) me.0.place known' m h.still
-        (let a = journal-append (first_seen me.0.cards) ((e, number) ∷ []) in let b = h.known_is in omega arith) added_is
+        (let a = length-journal (first_seen me.0.cards) ((e, number) ∷ []) in let b = h.known_is in omega arith) added_is
 
   -- it took in news, and compared them
   module _ (told : ℕ) (w m n : Sat S V) (news : IsNews told w) (joined : m ≡ (hearer me.0 w.0, me.1)) (last : n ≡ (comparing m.0, m.1))

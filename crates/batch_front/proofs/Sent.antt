@@ -9,7 +9,7 @@ use Rattle.std.specs.contracts.option.Option as Option
 use Rattle.std.proofs.option.Option.TheSendSync as OptionSent
 use Rattle.atomic_table.proofs.shared.Seat.TheSendSync as SeatSent
 use Rattle.atomic_table.proofs.owned.Table.TheSendSync as TableSent
-use Rattle.batch_front.specs.declared.event.Chronicle as Chronicle
+use Rattle.batch_front.specs.declared.chronicle.Chronicle as Chronicle
 use Rattle.batch_front.specs.contracts.rule.Opening as Opening
 use Rattle.batch_front.specs.contracts.rule.Rule as Rule
 use Rattle.batch_front.specs.contracts.rule.RuleTableRuleOptionViewSiteOpening.TheImpl as RuleImpl

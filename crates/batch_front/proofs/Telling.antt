@@ -7,7 +7,7 @@ use native.Mathlib.Decide.{ℕ_discrete}
 use mathlib.Core.Option.{none}
 use Rattle.atomic_table.specs.Table.{State, step, keeps, Allows, Splits, Joins}
 use Rattle.atomic_table.proofs.Lists.{set_else, set_again, at_snoc, at_longer}
-use Rattle.batch_front.specs.Records.{Record, IsPrefix}
+use Rattle.record_model.specs.Records.{Record, IsPrefix}
 use Rattle.batch_front.specs.Turns.{At, total, Each, tickets, Has, weight, pass_view, news_view, blank, comparing, dealer, dealt, teller, hearer, gatherer, Stands, Fits, IsOut, InTurn, Kept, Sat, Compared, IsAway, IsDealing, IsGathering, new_card}
 use Rattle.batch_front.specs.declared.rule.Card.{Card}
 use Rattle.batch_front.specs.declared.rule.Place.{Place}

@@ -8,9 +8,9 @@ use native.Mathlib.Decide.{ℕ_discrete}
 use lib.ListN.{get_elem?}
 use Rattle.atomic_table.specs.Table.{State, step, keeps, takes, gives, rest, Allows}
 use Rattle.atomic_table.proofs.Lists.{set_else, set_again, one_turn}
-use Rattle.batch_front.specs.Records.{Record, IsPrefix, own}
+use Rattle.record_model.specs.Records.{Record, IsPrefix, own}
 use Rattle.batch_front.specs.Turns.{At, total, Each, tickets, Has, weight, pass_view, first_seen, adding, seeing, Stands, Fits, Kept, Sat, Drew, Saw, Committed, Left, IsAway, IsWaiting, IsHolding}
-use Rattle.batch_front.specs.declared.event.Event.{Event}
+use Rattle.record_model.specs.declared.event.Event.{Event}
 use Rattle.batch_front.specs.declared.rule.Card.{Card}
 use Rattle.batch_front.specs.declared.rule.Place.{Place}
 use Rattle.batch_front.specs.declared.rule.Place.TheVariants.{Away, Waits, Holds}

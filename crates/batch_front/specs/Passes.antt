@@ -1,9 +1,9 @@
 -- Fronts, passes and what they give, as contracts see them.
 use Rattle.std.specs.Prelude.{◌≡◌, ◌≢◌, ◌≤◌, ℕ, Bool, List, [], ◌∷◌, ◌++◌, length, Option, Some, None}
 use Rattle.atomic_table.specs.Seated.{TableId}
-use Rattle.batch_front.specs.Records.{Record, IsPrefix, own, journal}
+use Rattle.record_model.specs.Records.{Record, IsPrefix, own, journal}
 use Rattle.batch_front.specs.Turns.{Sat, card, pass_view, news_view, first_seen}
-use Rattle.batch_front.specs.declared.event.Event.{Event}
+use Rattle.record_model.specs.declared.event.Event.{Event}
 use Rattle.batch_front.specs.declared.rule.Card.{Card}
 use Rattle.batch_front.specs.declared.rule.Place.{Place}
 use Rattle.batch_front.specs.declared.rule.Place.TheVariants.{Away, Waits, Holds}

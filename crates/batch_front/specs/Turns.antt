@@ -4,8 +4,8 @@ use Rattle.std.specs.List.{range_with_len}
 use mathlib.Core.Option.{none, some}
 use lib.ListN.{get_elem?}
 use Rattle.atomic_table.specs.Table.{State, Me, Step}
-use Rattle.batch_front.specs.Records.{Record, IsPrefix, own}
-use Rattle.batch_front.specs.declared.event.Event.{Event}
+use Rattle.record_model.specs.Records.{Record, IsPrefix, own}
+use Rattle.record_model.specs.declared.event.Event.{Event}
 use Rattle.batch_front.specs.declared.rule.Card.{Card}
 use Rattle.batch_front.specs.declared.rule.Place.{Place}
 use Rattle.batch_front.specs.declared.rule.Place.TheVariants.{Away, Waits, Holds}

@@ -1,18 +1,19 @@
 //! The front: one value behind a turn, and the table by which passes take the turn.
 ghost use Rattle.std.specs.Prelude.{◌≡◌, ℕ, ◌+◌, ◌-◌, ◌%◌, ◌^◌, ◌<◌, ◌≤◌, ◌↔◌, [], ◌∷◌, ◌++◌, true, false, length, Some, None, IsNone, IsTrue, MatchBool, option_map, IfOk, All, map};
 ghost use Rattle.std.specs.List.{range_with_len, Contains};
-ghost use Rattle.batch_front.specs.Records.{IsPrefix, own, journal, event_of};
-ghost use Rattle.batch_front.specs.declared.event.Act.TheVariants.{Looked};
+ghost use Rattle.record_model.specs.Records.{IsPrefix, own, journal, event_of};
+ghost use Rattle.record_model.specs.declared.event.Act.TheVariants.{Looked};
 ghost use Rattle.batch_front.specs.Passes.{IsPenOf, IsHome, IsIn, added, card_of, new_pass};
 ghost use Rattle.batch_front.specs.Turns.{IsWaiting, HasValue, IsAway, IsHolding, HasTaken, IsDealing, IsGathering, adding, longer};
 
-use crate::event::{Act, Chronicle};
+use crate::chronicle::Chronicle;
 use crate::pass::{News, Pass, Pen, Turn};
 use crate::rule::{
     Chair, Commit, Compare, Deal, Desk, Draw, Gather, Hear, Leave, Look, Opening, Tell, Told,
 };
 use atomic_table::Table;
 use cube_math::Batch;
+use record_model::Act;
 use std::alloc::{AllocError, Global};
 use std::marker::{Brand, Model};
 use std::snapshot::Snapshot;
@@ -31,7 +32,7 @@ pub struct Front<V: Chronicle> {
 
 impl<V: Chronicle> Model for Front<V> {
     ghost use Rattle.std.specs.Prelude.{◌≡◌};
-    ghost use Rattle.batch_front.specs.declared.event.Act.TheVariants.{Looked};
+    ghost use Rattle.record_model.specs.declared.event.Act.TheVariants.{Looked};
     ghost use Rattle.batch_front.specs.Passes.{FrontValue, IsFront};
 
     ghost Value = { FrontValue V.Site };
@@ -173,16 +174,14 @@ impl<V: Chronicle> Front<V> {
     }
 
     // Adds the event that the call picks, which is that of the act and the batch.
-    fn commit<E: Told>(&self, seat: &mut Chair<V>, act: Act, batch: Option<&Batch>)
+    fn commit<E: Told>(&self, seat: &mut Chair<V>, act: Act, batch: Option<Snapshot<Batch>>)
         requires table { seat.old.table_id ≡ self.now.table }
         requires holding { IsHolding seat.old.me }
         ensures table { seat.new.table_id ≡ seat.old.table_id }
         ensures event { seat.new.me ≡ (adding seat.old.me.0 E.event, seat.old.me.1) }
     {
         let _act = act;
-        if let Some(batch) = batch {
-            let _input = batch.input();
-        }
+        let _batch = batch;
         self.desk.shared.fetch_add::<Commit<E>>(seat, 2, 1);
     }
 
@@ -194,6 +193,27 @@ impl<V: Chronicle> Front<V> {
         requires batch { IsNone batch ↔ (act ≡ Looked) }
         requires room { length (journal (pass.old.seen ++ (event_of act (option_map (λ b. b.now) batch), pass.old.number) ∷ [])) < 2 ^ 32 }
         ensures pass { pass.new ≡ added pass.old (event_of act (option_map (λ b. b.now) batch.entry)) }
+        ensures value { turn.new.value ≡ turn.old.value }
+        ensures pen { turn.new.pen ≡ record turn.old.pen { unused = false } }
+    {
+        self.append_told(pass, turn, act, snapshot_of(batch));
+    }
+
+    /// The same for an act whose batch the caller does not have any more, as where the value has taken it: a snapshot of
+    /// the batch, which costs nothing, tells which one it was.
+    pub fn append_told(
+        &self,
+        pass: &mut Pass<V>,
+        turn: &mut Turn<V>,
+        act: Act,
+        batch: Option<Snapshot<Batch>>,
+    )
+        requires front { pass.old.front ≡ self.now }
+        requires pen { IsPenOf pass.old turn.old.pen }
+        requires unused { IsTrue turn.old.pen.unused }
+        requires batch { IsNone batch ↔ (act ≡ Looked) }
+        requires room { length (journal (pass.old.seen ++ (event_of act (option_map (λ b. b.value) batch), pass.old.number) ∷ [])) < 2 ^ 32 }
+        ensures pass { pass.new ≡ added pass.old (event_of act (option_map (λ b. b.value) batch)) }
         ensures value { turn.new.value ≡ turn.old.value }
         ensures pen { turn.new.pen ≡ record turn.old.pen { unused = false } }
     {
@@ -290,6 +310,17 @@ impl<V: Chronicle> Front<V> {
             Some(value) => value,
             None => unreachable!(),
         }
+    }
+}
+
+// What tells of a batch once it is moved away.
+fn snapshot_of(batch: Option<&Batch>) -> Option<Snapshot<Batch>>
+    ensures batch { option_map (λ b. b.value) result ≡ option_map (λ b. b.now) batch.entry }
+    ensures none { IsNone result ↔ IsNone batch.entry }
+{
+    match batch {
+        Some(batch) => Some(Snapshot::of(batch)),
+        None => None,
     }
 }
 

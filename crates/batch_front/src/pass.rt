@@ -1,8 +1,8 @@
 //! What a thread takes turns with, and what a turn gives.
 ghost use Rattle.std.specs.Prelude.{◌≡◌, length};
-ghost use Rattle.batch_front.specs.Records.{journal};
+ghost use Rattle.record_model.specs.Records.{journal};
 
-use crate::event::Chronicle;
+use crate::chronicle::Chronicle;
 use crate::rule::{Chair, Opening};
 use std::marker::Model;
 use std::snapshot::Snapshot;

@@ -1,8 +1,9 @@
 //! The rule of the front's table, and what its steps tell.
 //! Word 0 counts the tickets that were drawn, word 1 the tickets that were served and word 2 the events, each
 //! modulo 2 ^ 64. Slot 0 has the value while nobody holds the turn.
-use crate::event::{Chronicle, Event};
+use crate::chronicle::Chronicle;
 use atomic_table::{Join, Play, Seat, Split, Table, TableRule};
+use record_model::Event;
 use std::alloc::Global;
 use std::collections::LinkedList;
 use std::marker::{Brand, PhantomData};
@@ -75,13 +76,13 @@ impl<V: Chronicle> Play<Option<V>, View<V::Site>> for Look<V> {
 
 /// An event, which a call picks.
 pub trait Told {
-    ghost use Rattle.batch_front.specs.declared.event.Event.{Event};
+    ghost use Rattle.record_model.specs.declared.event.Event.{Event};
 
     ghost event: { Event };
 }
 
 impl Told for Brand {
-    ghost use Rattle.batch_front.specs.declared.event.Event.TheVariants.{Look};
+    ghost use Rattle.record_model.specs.declared.event.Event.TheVariants.{Look};
 
     ghost event = { Look };
 }

@@ -3,10 +3,10 @@ use Rattle.std.proofs.Common.{◌≡◌, ◌+◌, ◌≤◌, ◌<◌, ◌↔◌,
 use Rattle.std.specs.Prelude.{Option, Some, None, IsNone}
 use Rattle.std.proofs.lemmas.List.{map-append}
 use Rattle.cube_math.specs.Batches.{BatchValue}
-use Rattle.batch_front.specs.Records.{Record, journal, event_of, publications}
-use Rattle.batch_front.specs.declared.event.Act.{Act}
-use Rattle.batch_front.specs.declared.event.Act.TheVariants.{Admitted, Published, Looked}
-use Rattle.batch_front.proofs.Passing.{journal-append}
+use Rattle.record_model.specs.Records.{Record, journal, event_of, publications}
+use Rattle.record_model.specs.declared.event.Act.{Act}
+use Rattle.record_model.specs.declared.event.Act.TheVariants.{Admitted, Published, Looked}
+use Rattle.record_model.proofs.RecordLaws.{length-journal}
 use Rattle.worked_turns.specs.Logs.{event_of_row}
 use Rattle.worked_turns.specs.declared.log.Row.{Row}
 
@@ -21,7 +21,7 @@ one_more Looked None number is = refl
 
 -- an event more
 pub event_more : (events : Record) (act : Act) (batch : Option BatchValue) (number : ℕ) → IsNone batch ↔ (act ≡ Looked) → length (journal (events ++ (event_of act batch, number) ∷ [])) ≡ length (journal events) + publications act
-event_more events act batch number is = let a = journal-append events ((event_of act batch, number) ∷ []) in let b = one_more act batch number is in omega arith
+event_more events act batch number is = let a = length-journal events ((event_of act batch, number) ∷ []) in let b = one_more act batch number is in omega arith
 
 -- the events of a row more
 pub events_more : (rows : List Row) (row : Row) → map event_of_row (rows ++ row ∷ []) ≡ map event_of_row rows ++ event_of_row row ∷ []

@@ -1,7 +1,7 @@
 -- Logs, as contracts see them.
 use Rattle.std.specs.Prelude.{ℕ}
-use Rattle.batch_front.specs.Records.{Record, event_of}
-use Rattle.batch_front.specs.declared.event.Event.{Event}
+use Rattle.record_model.specs.Records.{Record, event_of}
+use Rattle.record_model.specs.declared.event.Event.{Event}
 use Rattle.worked_turns.specs.declared.log.Row.{Row}
 
 -- a log: its name, the events of its rows with the passes that they are of, and how many rows more it has memory for

@@ -1,8 +1,8 @@
 -- What a pass of a crowd does in its turns.
 use Rattle.std.specs.Prelude.{ℕ, pos, ◌%◌, ◌==◌, if◌then◌else◌, Option, Some, None}
 use Rattle.cube_math.specs.Points.{PointValue}
-use Rattle.batch_front.specs.declared.event.Act.{Act}
-use Rattle.batch_front.specs.declared.event.Act.TheVariants.{Admitted, Published, Looked}
+use Rattle.record_model.specs.declared.event.Act.{Act}
+use Rattle.record_model.specs.declared.event.Act.TheVariants.{Admitted, Published, Looked}
 
 -- what is done in the turn of this number: the even turns admit, publish and look, over and over, and the odd ones do nothing
 abbrev pub planned : ℕ → Option Act

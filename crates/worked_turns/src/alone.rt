@@ -1,7 +1,7 @@
 //! Two passes in one thread.
 use crate::crowd::batch_of;
 use crate::pair::{close_two, front_of_two, has_one_publication};
-use crate::turn::{add_event, count_rows, look_and_tell};
+use crate::turn::{add_event, count_rows, look_and_tell, publish_row};
 use batch_front::Act;
 use std::test::Fail;
 
@@ -78,5 +78,18 @@ fn a_pass_is_told_of_a_look(rt: HostRuntime) -> Result<(), Fail> {
     assert_eq!(rt; (first.known(), second.known()), (0, 0));
     let log = close_two(rt.alloc(), front, first, second)?;
     assert_eq!(rt; log.rows().len(), 2);
+    Ok(())
+}
+
+#[test]
+fn a_batch_that_the_log_has_taken_is_published(rt: HostRuntime) -> Result<(), Fail> {
+    let (front, mut first, second) = front_of_two(rt.alloc(), 7)?;
+    let batch = batch_of(rt.alloc(), 5).ok_or("memory")?;
+    let mut turn = front.enter(&rt, &mut first);
+    assert!(rt; publish_row(&front, &mut first, &mut turn, batch));
+    front.leave(&mut first, turn);
+    assert_eq!(rt; first.known(), 1);
+    let log = close_two(rt.alloc(), front, first, second)?;
+    assert!(rt; has_one_publication(&log));
     Ok(())
 }

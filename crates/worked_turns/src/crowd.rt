@@ -1,6 +1,6 @@
 //! Passes that take turns in threads of their own, by a plan that is the same in each.
 ghost use Rattle.std.specs.Prelude.{◌≡◌, [], ◌∷◌, IfOk, IfSome, All, vec_len};
-ghost use Rattle.batch_front.specs.Records.{IsPrefix};
+ghost use Rattle.record_model.specs.Records.{IsPrefix};
 ghost use Rattle.batch_front.specs.Passes.{IsHome};
 ghost use Rattle.worked_turns.specs.Plans.{planned, white_point};
 

@@ -1,7 +1,7 @@
 //! A log: a value that stands for a record, and keeps each event of it as a row.
 ghost use Rattle.std.specs.Prelude.{◌≡◌, ◌↔◌, ◌<◌, ◌+◌, ◌^◌, [], ◌∷◌, ◌++◌, length, IsNone, IsTrue, map};
-ghost use Rattle.batch_front.specs.Records.{journal, event_of, publications};
-ghost use Rattle.batch_front.specs.declared.event.Act.TheVariants.{Looked};
+ghost use Rattle.record_model.specs.Records.{journal, event_of};
+ghost use Rattle.record_model.specs.declared.event.Act.TheVariants.{Looked};
 ghost use Rattle.worked_turns.specs.Logs.{event_of_row};
 
 use batch_front::{Act, Chronicle};
@@ -31,7 +31,7 @@ pub struct Log {
 impl Model for Log {
     ghost use Rattle.std.specs.Prelude.{◌≡◌, ◌-◌, length, map, vec_len};
     ghost use Rattle.std.specs.Vec.{vec_capacity};
-    ghost use Rattle.batch_front.specs.Records.{journal};
+    ghost use Rattle.record_model.specs.Records.{journal};
     ghost use Rattle.worked_turns.specs.Logs.{LogValue, event_of_row};
 
     ghost Value = { LogValue };
@@ -100,18 +100,8 @@ impl Log {
         ensures events { self.new.events ≡ self.old.events ++ (event_of act batch, pass) ∷ [] }
     {
         match self.rows.push(Row { act, batch, pass }) {
-            Ok(()) => self.published += publications(act),
+            Ok(()) => self.published += act.publications(),
             Err(_) => unreachable!(),
         }
-    }
-}
-
-// How many publications an act is.
-fn publications(act: Act) -> u32
-    ensures { result ≡ publications act }
-{
-    match act {
-        Act::Published => 1,
-        Act::Admitted | Act::Looked => 0,
     }
 }

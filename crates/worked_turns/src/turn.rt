@@ -1,13 +1,14 @@
 //! Turns in which one event is added, or none.
 ghost use Rattle.std.specs.Prelude.{◌≡◌, ◌↔◌, [], ◌∷◌, ◌++◌, length, IsNone, IsTrue, None, if◌then◌else◌};
-ghost use Rattle.batch_front.specs.Records.{IsPrefix, event_of};
+ghost use Rattle.record_model.specs.Records.{IsPrefix, event_of};
 ghost use Rattle.batch_front.specs.Passes.{IsHome, IsPenOf, added};
-ghost use Rattle.batch_front.specs.declared.event.Act.TheVariants.{Looked};
-ghost use Rattle.batch_front.specs.declared.event.Event.TheVariants.{Look};
+ghost use Rattle.record_model.specs.declared.event.Act.TheVariants.{Looked};
+ghost use Rattle.record_model.specs.declared.event.Event.TheVariants.{Look, Publication};
 
 use crate::log::Log;
 use batch_front::{Act, Front, Pass, Turn};
 use cube_math::Batch;
+use std::snapshot::Snapshot;
 use std::sync::Wait;
 
 /// Adds an event and its row in a turn, and says whether it did: not where memory is short, or where the log has
@@ -34,6 +35,32 @@ pub fn add_row(
     }
     front.append(pass, turn, act, batch.as_ref());
     turn.value.add(act, batch, pass.number());
+    true
+}
+
+/// Publishes a batch in a turn, the row first: the log has taken the batch by the time at which the event is added. Says
+/// whether it did, as `add_row`.
+pub fn publish_row(
+    front: &Front<Log>,
+    pass: &mut Pass<Log>,
+    turn: &mut Turn<Log>,
+    batch: Batch,
+) -> bool
+    requires front { pass.old.front ≡ front.now }
+    requires pen { IsPenOf pass.old turn.old.pen }
+    requires unused { IsTrue turn.old.pen.unused }
+    requires value { turn.old.value.events ≡ pass.old.seen }
+    ensures pass { pass.new ≡ (if result then added pass.old (Publication batch.input batch.points) else pass.old) }
+    ensures value { turn.new.value.events ≡ pass.new.seen }
+    ensures name { turn.new.value.name ≡ turn.old.value.name }
+    ensures pen { turn.new.pen ≡ record turn.old.pen { unused = turn.new.pen.unused } }
+{
+    if !turn.value.reserve() {
+        return false;
+    }
+    let told = Snapshot::of(&batch);
+    turn.value.add(Act::Published, Some(batch), pass.number());
+    front.append_told(pass, turn, Act::Published, Some(told));
     true
 }
 

@@ -1,5 +1,5 @@
 use Rattle.std.proofs.Common.{◌≡◌, length, map, ap, sym, ◌∙◌, List, arith}
-use Rattle.batch_front.specs.Records.{Record, journal}
+use Rattle.record_model.specs.Records.{Record, journal}
 use Rattle.worked_turns.specs.declared.log.Row.{Row}
 use Rattle.worked_turns.specs.Logs.{event_of_row}
 use Rattle.worked_turns.proofs.Rows.{event_more, events_more}

@@ -1,6 +1,6 @@
-//! What is recorded, and what stands for a record.
+//! What passes do, and what a record has of it.
 ghost use Rattle.std.specs.Prelude.{◌≡◌};
-ghost use Rattle.batch_front.specs.Records.{publications};
+ghost use Rattle.record_model.specs.Records.{publications};
 
 use cube_math::Point;
 use std::collections::LinkedList;
@@ -17,8 +17,8 @@ pub enum Act {
 }
 
 impl Act {
-    // How many publications an act is.
-    pub(crate) fn publications(self) -> u32
+    /// How many publications an act is: one or none.
+    pub fn publications(self) -> u32
         ensures { result ≡ publications self }
     {
         match self {
@@ -42,21 +42,4 @@ pub enum Event {
     },
     /// A look.
     Look,
-}
-
-/// A value that stands for a record, and has a site that stays.
-pub trait Chronicle: Drop {
-    /// Plain data that stays the same in every turn. No value of it is made.
-    type Site;
-
-    ghost use Rattle.std.specs.Prelude.{◌≡◌, length};
-    ghost use Rattle.batch_front.specs.Records.{Record, journal};
-
-    ghost record: { Self → Record };
-
-    ghost site: { Self → Self.Site };
-
-    /// The number of publications in the record.
-    fn published(&self) -> u32
-        ensures { result ≡ length (journal («record» self.now)) };
 }

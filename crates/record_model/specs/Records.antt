@@ -1,12 +1,12 @@
 -- Records of what passes did, and the journal of what they published.
 use Rattle.std.specs.Prelude.{◌≡◌, ◌==◌, ℕ, List, ◌++◌, filter, map, Option, Some, None}
-use Rattle.std.specs.List.{filter_map}
+use Rattle.std.specs.List.{filter_map, flat_map}
 use Rattle.cube_math.specs.Points.{PointValue}
 use Rattle.cube_math.specs.Batches.{BatchValue}
-use Rattle.batch_front.specs.declared.event.Act.{Act}
-use Rattle.batch_front.specs.declared.event.Act.TheVariants.{Admitted, Published, Looked}
-use Rattle.batch_front.specs.declared.event.Event.{Event}
-use Rattle.batch_front.specs.declared.event.Event.TheVariants.{Admission, Publication, Look}
+use Rattle.record_model.specs.declared.event.Act.{Act}
+use Rattle.record_model.specs.declared.event.Act.TheVariants.{Admitted, Published, Looked}
+use Rattle.record_model.specs.declared.event.Event.{Event}
+use Rattle.record_model.specs.declared.event.Event.TheVariants.{Admission, Publication, Look}
 
 -- events in order, each with the number of the pass that it is of
 abbrev pub Record : Type 0
@@ -27,6 +27,14 @@ entry_of (Look, loader) = None
 -- the entries of the publications, in order
 abbrev pub journal : Record → List Entry
 journal events = filter_map entry_of events
+
+-- the points of entries, one entry after the other
+abbrev pub flat : List Entry → List PointValue
+flat entries = flat_map (λ (e : Entry). e.points) entries
+
+-- the published points, in the order of the publications
+abbrev pub published : Record → List PointValue
+published events = flat (journal events)
 
 -- the events of one pass, in order
 abbrev pub own : Record → ℕ → List Event

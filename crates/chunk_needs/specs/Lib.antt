@@ -1,0 +1,4 @@
+pub mod Leaves
+pub mod Limits
+pub mod Needs
+pub mod Slots

@@ -1,0 +1,10 @@
+//! What the record of a store needs: the slots that it granted and owns in the leaves of its octree, the chunks for them,
+//! and its limits. Definitions (in `specs/`), and laws about them as small public functions.
+#![tactic(auto)]
+
+mod laws;
+
+pub use laws::{
+    admissions_need_slots, first_admission_needs_its_points, looks_need_nothing,
+    publications_need_slots,
+};

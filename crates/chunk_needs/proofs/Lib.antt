@@ -1,3 +1,6 @@
+pub mod BelowLaws
 pub mod LeafLaws
+pub mod LevelLaws
 pub mod NeedLaws
 pub mod SumLaws
+pub mod TakenLaws

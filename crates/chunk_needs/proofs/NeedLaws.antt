@@ -166,7 +166,7 @@ live_after_publication config events input loader points =
 abbrev all_items : List AdmissionValue → List PointValue
 all_items as' = flat_map (λ (a : AdmissionValue). a.points) as'
 
-number-append : (config : Config) (path : List ℕ) (ps qs : List PointValue) → number_in config path (ps ++ qs) ≡ number_in config path ps + number_in config path qs
+pub number-append : (config : Config) (path : List ℕ) (ps qs : List PointValue) → number_in config path (ps ++ qs) ≡ number_in config path ps + number_in config path qs
 number-append config path ps qs = ap length (filter-append (contains (cube_at config.cube path)) ps qs) ∙ length-append (inside (cube_at config.cube path) ps) (inside (cube_at config.cube path) qs)
 
 all_owned : (config : Config) (all points : List PointValue) (path : List ℕ) (as' : List AdmissionValue) → AllEarlier all as' → is_leaf_of config all path ≡ false → is_leaf_of config (all ++ points) path ≡ true

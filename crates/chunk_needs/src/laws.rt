@@ -1,14 +1,16 @@
 //! Laws of what one event more needs.
-ghost use Rattle.std.specs.Prelude.{◌≡◌, ℕ, ◌+◌, true, false, List, ◌∷◌, [], ◌++◌, sum_by};
-ghost use Rattle.chunk_pool.specs.Amounts.{chunks_for};
+ghost use Rattle.std.specs.Prelude.{◌≡◌, ◌≤◌, ℕ, ◌+◌, true, false, List, ◌∷◌, [], ◌++◌, sum_by};
+ghost use Rattle.chunk_pool.specs.Amounts.{chunks_for, enough};
 ghost use Rattle.cube_math.specs.Points.{PointValue};
 ghost use Rattle.leaf_counts.specs.Overfull.{overfull};
-ghost use Rattle.record_model.specs.Admissions.{admitted_points};
+ghost use Rattle.record_model.specs.Admissions.{admitted, admitted_points};
 ghost use Rattle.record_model.specs.Records.{Record, published};
 ghost use Rattle.record_model.specs.declared.config.Config.{Config};
+ghost use Rattle.record_model.specs.declared.event.Event.{Event};
 ghost use Rattle.record_model.specs.declared.event.Event.TheVariants.{Admission, Look, Publication};
 ghost use Rattle.chunk_needs.specs.Leaves.{counts_of, is_leaf_of, leaves, number_in, split_leaves};
-ghost use Rattle.chunk_needs.specs.Needs.{leaf_chunks, live, more_chunks, need};
+ghost use Rattle.chunk_needs.specs.Needs.{leaf_chunks, live, more_chunks, need, taken};
+ghost use Rattle.chunk_needs.specs.Limits.{nodes_of};
 ghost use Rattle.chunk_needs.specs.Slots.{owned};
 
 /// A law: a look needs no chunk, and changes nothing of what is live.
@@ -47,4 +49,12 @@ pub fn first_admission_needs_its_points()
     ensures more { chunks_for 257 ≡ 2 }
     ensures none { (config : Config) → live config [] ≡ 0 }
     ensures first { (config : Config) (input loader : ℕ) (points : List PointValue) → need config [] (Admission input points, loader) ≡ chunks_for (number_in config [] points) }
+{}
+
+/// A law: what a record ever took is the sum of what its events needed, and is never more than enough for the nodes of its
+/// journal's octree and for the points that it admitted: two chunks for each node, and for each level of the octree those
+/// that its points fill.
+pub fn enough_chunks_never_run_out()
+    ensures sum { (config : Config) (events : Record) (e : Event × ℕ) → taken config (events ++ e ∷ []) ≡ taken config events + need config events e }
+    ensures most { (config : Config) (events : Record) → 7 ≤ config.cube.bits → taken config events ≤ enough config.cube.bits (admitted events) (nodes_of config (published events)) }
 {}

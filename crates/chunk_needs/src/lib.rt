@@ -5,6 +5,6 @@
 mod laws;
 
 pub use laws::{
-    admissions_need_slots, first_admission_needs_its_points, looks_need_nothing,
-    publications_need_slots,
+    admissions_need_slots, enough_chunks_never_run_out, first_admission_needs_its_points,
+    looks_need_nothing, publications_need_slots,
 };

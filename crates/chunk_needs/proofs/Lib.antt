@@ -1,4 +1,5 @@
 pub mod BelowLaws
+mod Examples
 pub mod LeafLaws
 pub mod LevelLaws
 pub mod NeedLaws

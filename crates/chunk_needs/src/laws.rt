@@ -34,7 +34,7 @@ pub fn admissions_need_slots()
 pub fn publications_need_slots()
     ensures live { (config : Config) (events : Record) (input loader : ℕ) (points : List PointValue)
         → live config (events ++ (Publication input points, loader) ∷ []) + sum_by (leaf_chunks config events) (split_leaves config events (Publication input points, loader))
-            ≡ live config events + need config events (Publication input points, loader) }
+        ≡ live config events + need config events (Publication input points, loader) }
     ensures owns { (config : Config) (events : Record) (input loader : ℕ) (points : List PointValue) (path : List ℕ)
         → is_leaf_of config (published events) path ≡ false → is_leaf_of config (published (events ++ (Publication input points, loader) ∷ [])) path ≡ true
         → owned config (events ++ (Publication input points, loader) ∷ []) path ≡ number_in config path (admitted_points events) }

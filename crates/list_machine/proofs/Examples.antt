@@ -3,7 +3,8 @@ use Rattle.std.proofs.Common.{◌≡◌, ℕ, zero, suc, ◌+◌, ◌*◌, ◌<�
 use Rattle.std.proofs.lemmas.Bool.Decides.{nat_tests}
 use Rattle.list_machine.specs.Words.{word, blank, decode, encode, item_in, link_to, one_more, raised, holding}
 use Rattle.list_machine.specs.State.{zero_words, put_claim, put_slot, put_link}
-use Rattle.list_machine.specs.Facts.{IsAt, claimed_chain, chain_of, left_in}
+use Rattle.list_machine.specs.Grants.{granted_in}
+use Rattle.list_machine.specs.Facts.{IsAt, claimed_chain, chain_of}
 use Rattle.list_machine.specs.Rule.{IsFree}
 use Rattle.list_machine.specs.Steps.{opening, opening_leaf, with_leaf, with_claimed, with_stage, with_grant, with_fact, after_split, newcomer, after_claim, guest_with, after_shut, mark_shows, IsGrantable}
 use Rattle.list_machine.specs.Machine.{State, state, claims, files, links, shuts, marks, splits, Run, none, more}
@@ -57,7 +58,7 @@ swept = state (put_slot shut.words 4 0 (raised (shut.words.slot 4 0))) (with_fac
 
 grantable : IsGrantable linked.owner.book.leaves grants
 grantable = record { lists = here; few = omega arith } where
-  here : (l : ℕ) → 0 < left_in l grants → (a : Leaf) × IsAt linked.owner.book.leaves l a × (a.stage ≡ Open) × (a.granted + left_in l grants ≤ 256 * length a.claimed)
+  here : (l : ℕ) → 0 < granted_in l grants → (a : Leaf) × IsAt linked.owner.book.leaves l a × (a.stage ≡ Open) × (a.granted + granted_in l grants ≤ 256 * length a.claimed)
   here zero some = (with_claimed opening_leaf 4, refl, refl, omega arith)
   here (suc l) some = absurd (grind (arith, nat_tests))
 

@@ -4,7 +4,8 @@ use Rattle.std.specs.Prelude.{not, ◌&&◌, nat_eq, nat_lt, slice_index}
 use Rattle.std.proofs.lemmas.Bool.Decides.{nat_tests}
 use Rattle.list_machine.specs.Words.{Word, blank, link_to}
 use Rattle.list_machine.specs.State.{link_at}
-use Rattle.list_machine.specs.Facts.{IsAt, Chain, claimed_chain, owned_chain, chain_of, LeadsTo, left_in}
+use Rattle.list_machine.specs.Grants.{granted_in}
+use Rattle.list_machine.specs.Facts.{IsAt, Chain, claimed_chain, owned_chain, chain_of, LeadsTo}
 use Rattle.list_machine.specs.Rule.{IsFree, IsList, IsStanding, IsSwept}
 use Rattle.list_machine.specs.Machine.{State, IsSound, Step, claims, files, misses, reads, places, adopts, links, shuts, marks, splits, joins, Run, none, more}
 use Rattle.list_machine.specs.Steps.{KnowsChunk, KnowsLink, IsNextMark, IsGrantable, nobody, opening_leaf}
@@ -36,10 +37,10 @@ guest_here s j v at = subst (λ (g : Guest). IsAt s.guests j g) (guest_is s j v 
 pub leaf_here : (s : State) (l : ℕ) (a : Leaf) → IsAt s.owner.book.leaves l a → IsAt s.owner.book.leaves l (leaf_in s l)
 leaf_here s l a at = subst (λ (e : Leaf). IsAt s.owner.book.leaves l e) (leaf_is s l a at) at
 
-pub claim_run : (s : State) (j l : ℕ) (v : Guest) → IsAt s.guests j v → v.claim ≡ Nothing → 0 < left_in l v.grants → Run s (place_claimed s j l)
+pub claim_run : (s : State) (j l : ℕ) (v : Guest) → IsAt s.guests j v → v.claim ≡ Nothing → 0 < granted_in l v.grants → Run s (place_claimed s j l)
 claim_run s j l v at idle has =
     let is = guest_is s j v at in
-    one s (place_claimed s j l) (claims j l (guest_in s j) (guest_here s j v at) (ap (λ (g : Guest). g.claim) (sym is) ∙ idle) (subst (λ (g : Guest). 0 < left_in l g.grants) is has))
+    one s (place_claimed s j l) (claims j l (guest_in s j) (guest_here s j v at) (ap (λ (g : Guest). g.claim) (sym is) ∙ idle) (subst (λ (g : Guest). 0 < granted_in l g.grants) is has))
 
 blank_is : (x : Word) → is_blank x ≡ true → x ≡ blank
 blank_is x e = by x.high refl e where

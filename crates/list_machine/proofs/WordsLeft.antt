@@ -4,7 +4,8 @@ use Rattle.std.specs.Prelude.{◌==◌, slice_index, slice_index_or}
 use Rattle.std.proofs.lemmas.Bool.Decides.{nat_tests}
 use Rattle.list_machine.specs.Words.{blank}
 use Rattle.list_machine.specs.State.{Words, put_link, put_slot}
-use Rattle.list_machine.specs.Facts.{IsAt, left_in}
+use Rattle.list_machine.specs.Grants.{granted_in}
+use Rattle.list_machine.specs.Facts.{IsAt}
 use Rattle.list_machine.specs.Machine.{State, state, IsSound, Run}
 use Rattle.list_machine.specs.Moves.{leaf_in, is_blank, is_clearing, may_begin, chunk_count, ended_if, cleared_by, cleared_in, word_cleared, next_to_clear, marked_by, slot_marked, item_filed, filed_if, Move, claiming, filing, reading, placing, adopting, linking, shutting, marking, clearing, splitting, joining, HaveWordsLeft}
 use Rattle.list_machine.specs.Steps.{after_first_clear, opening, opening_leaf, leaves_after_grants, with_leaf, with_stage, with_claimed, with_owned, with_one_used, with_grant, without_chains}

@@ -4,7 +4,8 @@ use Rattle.std.specs.Prelude.{◌≡◌, ℕ, zero, suc, ◌+◌, ◌-◌, ◌*�
 use Rattle.std.specs.List.{list_all}
 use Rattle.list_machine.specs.Words.{Word, blank, one_more, raised, holding, link_to}
 use Rattle.list_machine.specs.State.{link_at, put_claim, put_slot, put_link}
-use Rattle.list_machine.specs.Facts.{IsAt, left_in}
+use Rattle.list_machine.specs.Grants.{granted_in}
+use Rattle.list_machine.specs.Facts.{IsAt}
 use Rattle.list_machine.specs.Rule.{IsFree}
 use Rattle.list_machine.specs.Machine.{State, state}
 use Rattle.list_machine.specs.Steps.{guest_with, after_claim, KnowsChunk, KnowsLink, with_leaf, with_fact, with_stage, with_claimed, with_owned, with_one_used, without_chains, after_shut, mark_shows, after_first_clear, after_split, newcomer, IsGrantable, nobody, after_join, opening_leaf}
@@ -200,7 +201,7 @@ HaveWordsLeft leaves = (l p n : ℕ) (a : Leaf) → IsAt leaves l a → a.stage 
 -- one move of one seat, which may make it
 pub data Move (s : State) : State → Type 0 where
   -- a filer that has no unfiled place claims one, by a grant
-  claiming : (j l : ℕ) (v : Guest) → IsAt s.guests j v → v.claim ≡ Nothing → 0 < left_in l v.grants → Move s (place_claimed s j l)
+  claiming : (j l : ℕ) (v : Guest) → IsAt s.guests j v → v.claim ≡ Nothing → 0 < granted_in l v.grants → Move s (place_claimed s j l)
   -- it files into the place, whose chunk it knows
   filing : (j l r c k x : ℕ) (v : Guest) → IsAt s.guests j v → v.claim ≡ Place l (256 * r + k) → k < 256 → KnowsChunk v l r c
       → Move s (item_filed s j l c k x)

@@ -24,3 +24,5 @@ pub mod Moves
 pub mod ClearMoves
 pub mod WordsLeft
 pub mod Sweeps
+pub mod Outlasting
+pub mod DoneSweeps

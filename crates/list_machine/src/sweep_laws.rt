@@ -1,10 +1,10 @@
 //! Laws of sweeps.
 ghost use Rattle.std.specs.Prelude.{◌≡◌, ℕ, ◌+◌, ◌*◌, ◌<◌, ◌≤◌, true, false};
 ghost use Rattle.list_machine.specs.Words.{blank};
-ghost use Rattle.list_machine.specs.Facts.{IsAt, Chain, chain_of};
+ghost use Rattle.list_machine.specs.Facts.{IsAt, Chain, chain_of, Stands};
 ghost use Rattle.list_machine.specs.Steps.{IsNextMark, IsSweptPlace};
 ghost use Rattle.list_machine.specs.Sweeps.{mark_index};
-ghost use Rattle.list_machine.specs.Machine.{State, IsSound};
+ghost use Rattle.list_machine.specs.Machine.{State, IsSound, Run};
 ghost use Rattle.list_machine.specs.Moves.{next_mark};
 ghost use Rattle.list_machine.specs.declared.views.Fact.TheVariants.{Item};
 ghost use Rattle.list_machine.specs.declared.views.Stage.TheVariants.{Swept};
@@ -48,4 +48,16 @@ pub fn next_marks_are_new()
         → IsAt s.owner.book.leaves l a → a.stage ≡ Swept p f m → IsAt (chain_of a y) r c
         → IsAt (chain_of a z) q c → IsNextMark a f m z (256 * q + k)
         → mark_index f y (256 * r + k) ≡ m }
+{}
+
+/// A law: where a sweep has marked all its places, the list and its slots stay as they are until the
+/// clearing of the list begins, whatever steps all seats make. So no slot gets an item any more.
+pub fn swept_lists_stay()
+    ensures list { (s t : State) (l p f m : ℕ) (a e : Leaf) → IsSound s → Run s t
+        → IsAt s.owner.book.leaves l a → a.stage ≡ Swept p f m → f + a.used ≤ m
+        → IsAt t.owner.book.leaves l e → Stands e.stage → e ≡ a }
+    ensures slots { (s t : State) (l c k p f m r : ℕ) (y : Chain) (a e : Leaf) → IsSound s → Run s t
+        → IsAt s.owner.book.leaves l a → a.stage ≡ Swept p f m → f + a.used ≤ m
+        → IsAt t.owner.book.leaves l e → Stands e.stage → IsAt (chain_of a y) r c → k < 256
+        → t.words.slot c k ≡ s.words.slot c k }
 {}

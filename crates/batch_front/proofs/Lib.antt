@@ -1,6 +1,7 @@
 pub mod Closing
 pub mod Examples
 pub mod Lists
+pub mod Meeting
 pub mod Numbers
 pub mod Opening
 pub mod Passing

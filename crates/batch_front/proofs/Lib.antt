@@ -1,5 +1,6 @@
 pub mod Closing
 pub mod Lists
+pub mod Meeting
 pub mod Numbers
 pub mod Opening
 pub mod Passing

@@ -18,7 +18,7 @@ away_is Away still e = refl
 away_is (Waits t) still e = absurd (still t refl)
 away_is (Holds t) still e = absurd (cc)
 
-held_is : (place : Place) (t : ℕ) → turn_of place ≡ Some t → place ≡ Holds t
+pub held_is : (place : Place) (t : ℕ) → turn_of place ≡ Some t → place ≡ Holds t
 held_is Away t e = absurd (cc)
 held_is (Waits x) t e = absurd (cc)
 held_is (Holds x) t e = let z : x ≡ t = cc in ap (λ (y : ℕ). Holds y) z

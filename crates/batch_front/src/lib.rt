@@ -3,10 +3,12 @@
 
 mod chronicle;
 mod front;
+mod laws;
 mod pass;
 mod rule;
 
 pub use chronicle::Chronicle;
 pub use front::Front;
+pub use laws::{one_pass_holds_the_turn, passes_see_one_record};
 pub use pass::{News, Pass, Pen, Turn};
 pub use record_model::{Act, Event};

@@ -5,12 +5,12 @@ use native.Mathlib.Decide.{ℕ_discrete, dec_le}
 use lib.Seq.{set-get_or}
 use Rattle.std.proofs.lemmas.List.Sums.{sum_by-cons}
 use Rattle.std.proofs.lemmas.Option.{get_or_from_slice_get}
-use Rattle.list_machine.specs.Facts.{total, left_in}
+use Rattle.list_machine.specs.Grants.{granted_in as left_in, granted_in_all}
+use Rattle.list_machine.specs.Facts.{total}
 use Rattle.list_machine.specs.Steps.{with_grant, leaves_after_grants, IsGrantable, opening_leaf}
 use Rattle.list_machine.specs.declared.views.Grant.{Grant}
 use Rattle.list_machine.specs.declared.views.Leaf.{Leaf}
 use Rattle.list_machine.proofs.Seats.{granting_at}
-use Rattle.list_words.specs.Filing.{granted_in_all}
 use Rattle.list_words.specs.Store.{Row, MayAdmit, grant_rows, more_granted}
 use Rattle.list_words.specs.declared.leaf_lists.Phase.{Phase}
 use Rattle.list_words.specs.declared.leaf_lists.Phase.TheVariants.{Fresh, Open, Shut}

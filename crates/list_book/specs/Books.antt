@@ -1,7 +1,7 @@
 -- The book of the lists of leaves, as plain data: what is kept of each list beside its words.
 use Rattle.std.specs.Prelude.{◌≡◌, ◌≢◌, ℕ, suc, ◌+◌, ◌-◌, ◌*◌, ◌<◌, ◌≤◌, Bool, if◌then◌else◌, max, List, [], ◌∷◌, ◌++◌, length, slice_get, slice_set, slice_index, slice_index_or, sum, sum_by, replicate, Option, Some, Contains, All, AllPairs}
 use Rattle.list_machine.specs.declared.views.Grant.{Grant}
-use Rattle.list_words.specs.Filing.{granted_in_all}
+use Rattle.list_machine.specs.Grants.{granted_in_all}
 use Rattle.list_words.specs.Store.{Unreached, counted, counted_off, is_shut}
 use Rattle.list_words.specs.declared.leaf_lists.Phase.{Phase}
 use Rattle.list_words.specs.declared.leaf_lists.Phase.TheVariants.{Fresh, Open, Shut}

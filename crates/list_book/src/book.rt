@@ -1,6 +1,6 @@
 ghost use Rattle.std.specs.Prelude.{◌≡◌, ◌≢◌, ℕ, suc, ◌+◌, ◌-◌, ◌*◌, ◌/◌, ◌%◌, ◌^◌, ◌<◌, ◌≤◌, if◌then◌else◌, All, AllPairs, replicate, map, Some, length, slice_get, sum, IfOk, OnOk, OnErr, MatchOption, vec_len};
 ghost use Rattle.list_machine.specs.declared.views.Grant.{Grant};
-ghost use Rattle.list_words.specs.Filing.{granted_in_all};
+ghost use Rattle.list_machine.specs.Grants.{granted_in_all};
 ghost use Rattle.list_words.specs.PlainGrants.{MayGrant};
 ghost use Rattle.list_words.specs.declared.leaf_lists.Phase.TheVariants.{Fresh};
 ghost use Rattle.list_book.specs.BookKept.{bare_list};

@@ -4,8 +4,9 @@ use Rattle.std.specs.Prelude.{Option, Some, None}
 use mathlib.Core.Logic.{dite}
 use native.Mathlib.Decide.{ℕ_discrete}
 use Rattle.list_machine.specs.Words.{Word}
-use Rattle.list_machine.specs.Facts.{IsAt, left_in}
-use Rattle.list_machine.specs.Steps.{KnowsChunk, after_claim, use_of}
+use Rattle.list_machine.specs.Grants.{granted_in as left_in, use_grant as use_of}
+use Rattle.list_machine.specs.Facts.{IsAt}
+use Rattle.list_machine.specs.Steps.{KnowsChunk, after_claim}
 use Rattle.list_machine.specs.declared.views.Grant.{Grant}
 use Rattle.list_machine.specs.declared.views.Fact.TheVariants.{Item, Closed, Empty}
 use Rattle.list_machine.specs.declared.views.Unfiled.TheVariants.{Nothing, Place}

@@ -8,7 +8,8 @@ use Rattle.std.proofs.lemmas.List.{length-map, get_or-map}
 use Rattle.std.proofs.lemmas.List.Elements.{All-map}
 use Rattle.std.proofs.lemmas.List.Sorted.{All-permutation, Contains-permutation}
 use Rattle.std.proofs.lemmas.Map.Keys.{IsDistinct-from_apart, IsDistinct-IsPermutation, apart_from_distinct}
-use Rattle.list_machine.specs.Facts.{IsAt, left_in}
+use Rattle.list_machine.specs.Grants.{granted_in as left_in, granted_in_all}
+use Rattle.list_machine.specs.Facts.{IsAt}
 use Rattle.list_machine.specs.declared.views.Grant.{Grant}
 use Rattle.list_machine.proofs.Lists.{at_below, at_same, at_nothing}
 use Rattle.list_filers.specs.Cursors.{AreSorted, HasCursor, fresh_cursor}
@@ -16,7 +17,6 @@ use Rattle.list_filers.specs.declared.cursors.Cursor.{Cursor}
 use Rattle.list_filers.specs.declared.cursors.Reached.{Reached}
 use Rattle.list_machine.specs.declared.views.Guest.{Guest}
 use Rattle.list_table.specs.Tables.{ListsValue}
-use Rattle.list_words.specs.Filing.{granted_in_all}
 use Rattle.list_words.specs.declared.leaf_lists.Answer.{Answer}
 use Rattle.list_filers.specs.Ways.{WaysValue, at_start, IsReady, IsSpent}
 use Rattle.list_filers.specs.Filers.{AreShown, IsFiler, IsNew}

@@ -5,7 +5,8 @@ use Rattle.list_machine.specs.declared.views.Grant.{Grant}
 use Rattle.list_machine.specs.declared.views.Unfiled.TheVariants.{Nothing}
 use Rattle.list_machine.specs.declared.views.Guest.{Guest}
 use Rattle.list_table.specs.Tables.{ListsValue}
-use Rattle.list_words.specs.Filing.{Filing, granted_in_all}
+use Rattle.list_machine.specs.Grants.{granted_in_all}
+use Rattle.list_words.specs.Filing.{Filing}
 use Rattle.list_words.specs.declared.leaf_lists.Answer.{Answer}
 use Rattle.list_filers.specs.Ways.{WaysValue, IsReady, IsShown}
 

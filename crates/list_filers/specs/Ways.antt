@@ -1,7 +1,8 @@
 -- A filer on its ways: its seat, its cursors, and how many links it has walked.
 use Rattle.std.specs.Prelude.{◌≡◌, ℕ, ◌+◌, ◌*◌, ◌<◌, ◌≤◌, Bool, true, if◌then◌else◌, List, slice_set, length, Option, None, Some}
-use Rattle.list_machine.specs.Facts.{IsAt, left_in}
-use Rattle.list_machine.specs.Steps.{KnowsChunk, use_of}
+use Rattle.list_machine.specs.Grants.{granted_in as left_in, use_grant as use_of}
+use Rattle.list_machine.specs.Facts.{IsAt}
+use Rattle.list_machine.specs.Steps.{KnowsChunk}
 use Rattle.list_machine.specs.Walks.{IsWalk, WalkedLink}
 use Rattle.list_machine.specs.declared.views.Fact.{Fact}
 use Rattle.list_machine.specs.declared.views.Fact.TheVariants.{Item, Closed, Empty}

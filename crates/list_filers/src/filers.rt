@@ -2,7 +2,7 @@
 ghost use Rattle.std.specs.Prelude.{◌≡◌, ◌≢◌, ℕ, ◌<◌, ◌≤◌, [], ◌∷◌, ◌++◌, length, true, All, AllPairs};
 ghost use Rattle.list_machine.specs.declared.views.Grant.{Grant};
 ghost use Rattle.list_table.specs.Tables.{ListsValue};
-ghost use Rattle.list_words.specs.Filing.{granted_in_all};
+ghost use Rattle.list_machine.specs.Grants.{granted_in_all};
 ghost use Rattle.list_filers.specs.Filers.{shared_name, AreShown, IsNew};
 ghost use Rattle.list_filers.specs.Rooms.{no_room};
 

@@ -4,7 +4,7 @@ ghost use Rattle.list_machine.specs.declared.views.LinkWord.TheVariants.{OfList,
 ghost use Rattle.list_table.specs.Ledgers.{opening_ledger};
 ghost use Rattle.list_table.specs.OwnerMoves.{after_link};
 ghost use Rattle.list_table.specs.Ruled.{ledger_after_split, ledger_after_join};
-ghost use Rattle.list_words.specs.Filing.{granted_in};
+ghost use Rattle.list_machine.specs.Grants.{granted_in};
 ghost use Rattle.list_filers.specs.Filers.{shared_name};
 
 use crate::{Filer, FilerRoom, Reader};

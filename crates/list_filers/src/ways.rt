@@ -1,7 +1,8 @@
 //! A filer's seat, and its ways in the claimed chains of its lists: it walks on from where it stands, and never
 //! from the first link again.
 ghost use Rattle.std.specs.Prelude.{◌≡◌, ℕ, suc, ◌+◌, ◌*◌, ◌/◌, ◌%◌, ◌^◌, ◌<◌, ◌≤◌, length, None, All};
-ghost use Rattle.list_machine.specs.Facts.{IsAt, left_in};
+ghost use Rattle.list_machine.specs.Grants.{granted_in as left_in};
+ghost use Rattle.list_machine.specs.Facts.{IsAt};
 ghost use Rattle.list_machine.specs.Steps.{KnowsChunk};
 ghost use Rattle.list_machine.specs.declared.views.Unfiled.TheVariants.{Nothing, Place};
 ghost use Rattle.list_table.specs.GuestMoves.{IsAfterClaim, MayFile, after_file};

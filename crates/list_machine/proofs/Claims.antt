@@ -5,9 +5,10 @@ use native.Mathlib.Decide.{ℕ_discrete}
 use lib.Seq.{set-set}
 use Rattle.list_machine.specs.Words.{Word, one_more}
 use Rattle.list_machine.specs.State.{Words, put_claim}
-use Rattle.list_machine.specs.Facts.{IsAt, total, Holds, list_of, left_in, Reached}
+use Rattle.list_machine.specs.Grants.{granted_in, use_grant}
+use Rattle.list_machine.specs.Facts.{IsAt, total, Holds, list_of, Reached}
 use Rattle.list_machine.specs.Rule.{IsStanding, HoldsAt, IsList, AreLists, AreKnown, OfLeaf, IsStated, IsClaimed, IsSeat, Shape, Sound}
-use Rattle.list_machine.specs.Steps.{use_of, after_claim}
+use Rattle.list_machine.specs.Steps.{after_claim}
 use Rattle.list_machine.specs.declared.views.Fact.TheVariants.{Item, Link, Closed, Empty}
 use Rattle.list_machine.specs.declared.views.Fact.{Fact}
 use Rattle.list_machine.specs.declared.views.Stage.TheVariants.{Open, Swept, Cleared}
@@ -54,7 +55,7 @@ claim_shape w b sh l a leaf few = record {
   order = sh.order;
 }
 
-module _ (w : Words) (o : Owner) (guests : List Guest) (s : Sound w o guests) (j l : ℕ) (v : Guest) (at : IsAt guests j v) (idle : v.claim ≡ Nothing) (has : 0 < left_in l v.grants) where
+module _ (w : Words) (o : Owner) (guests : List Guest) (s : Sound w o guests) (j l : ℕ) (v : Guest) (at : IsAt guests j v) (idle : v.claim ≡ Nothing) (has : 0 < granted_in l v.grants) where
   abbrev x : Word
   x = w.claim l
 
@@ -66,7 +67,7 @@ module _ (w : Words) (o : Owner) (guests : List Guest) (s : Sound w o guests) (j
 
   -- the seat with one grant less
   abbrev spending : Guest
-  spending = record { out = v.out; birth = v.birth; grants = use_of l v.grants; claim = v.claim; facts = v.facts }
+  spending = record { out = v.out; birth = v.birth; grants = use_grant l v.grants; claim = v.claim; facts = v.facts }
 
   abbrev before : List Guest
   before = set guests j spending
@@ -77,8 +78,8 @@ module _ (w : Words) (o : Owner) (guests : List Guest) (s : Sound w o guests) (j
   reach : OfLeaf leaves l (λ (a : Leaf). Reached v.birth a.stage)
   reach = mine.grants l has
 
-  less : (h : ℕ) → left_in h (use_of l v.grants) ≤ left_in h v.grants
-  less h = dite (ℕ_discrete h l) (λ e. let p = used_here l v.grants has in let q : left_in h (use_of l v.grants) + 1 ≡ left_in h v.grants = subst (λ (y : ℕ). left_in y (use_of l v.grants) + 1 ≡ left_in y v.grants) (sym e) p in omega arith) (λ ne. let p = used_else l h v.grants ne in omega arith)
+  less : (h : ℕ) → granted_in h (use_grant l v.grants) ≤ granted_in h v.grants
+  less h = dite (ℕ_discrete h l) (λ e. let p = used_here l v.grants has in let q : granted_in h (use_grant l v.grants) + 1 ≡ granted_in h v.grants = subst (λ (y : ℕ). granted_in y (use_grant l v.grants) + 1 ≡ granted_in y v.grants) (sym e) p in omega arith) (λ ne. let p = used_else l h v.grants ne in omega arith)
 
   spent_one : AreKnown w leaves o.facts before
   spent_one = guest_known w leaves o.facts guests j v spending s.known at
@@ -91,8 +92,8 @@ module _ (w : Words) (o : Owner) (guests : List Guest) (s : Sound w o guests) (j
   out : v.out ≡ true
   out = must_be_out w leaves v mine (λ z. let e = z.2 l in omega arith)
 
-  few : suc x.value + total (λ (u : Guest). left_in l u.grants) before ≤ reach.0.granted
-  few = let sum = total_set (λ (u : Guest). left_in l u.grants) guests j v spending at in let old = s.known.granted l reach.0 leaf in let p = used_here l v.grants has in omega arith
+  few : suc x.value + total (λ (u : Guest). granted_in l u.grants) before ≤ reach.0.granted
+  few = let sum = total_set (λ (u : Guest). granted_in l u.grants) guests j v spending at in let old = s.known.granted l reach.0 leaf in let p = used_here l v.grants has in omega arith
 
   holds_on : (f : Fact) → Holds w f → Holds w' f
   holds_on f t = claim_word_holds w l (one_more x) f (λ e. e) t
@@ -107,11 +108,11 @@ module _ (w : Words) (o : Owner) (guests : List Guest) (s : Sound w o guests) (j
   counted_one : AreKnown w' leaves o.facts before
   counted_one = subst (λ (es : List Leaf). AreKnown w' es o.facts before) (set_again leaves l reach.0 leaf)
       (known_frame w w' leaves l reach.0 reach.0 s.shape.lists leaf (claim_elsewhere w l reach.0 (one_more x)) o.facts before spent_one stays (λ k f p is t. (holds_on f t.0, t.1))
-      (subst (λ (y : Word). y.value + total (λ (u : Guest). left_in l u.grants) before ≤ reach.0.granted) (sym (put_here w.claim l (one_more x))) few))
+      (subst (λ (y : Word). y.value + total (λ (u : Guest). granted_in l u.grants) before ≤ reach.0.granted) (sym (put_here w.claim l (one_more x))) few))
 
   -- the seat ends with this claim and these facts
   abbrev ending : Unfiled → List Fact → Guest
-  ending c fs = record { out = v.out; birth = v.birth; grants = use_of l v.grants; claim = c; facts = fs }
+  ending c fs = record { out = v.out; birth = v.birth; grants = use_grant l v.grants; claim = c; facts = fs }
 
   spending_at : IsAt before j spending
   spending_at = at_set_same guests j v spending at

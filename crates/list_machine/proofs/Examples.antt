@@ -1,12 +1,14 @@
 -- A few words, and the first part of one list's life.
 use Rattle.std.proofs.Common.{◌≡◌, ℕ, zero, suc, ◌+◌, ◌*◌, ◌<◌, ◌≤◌, true, false, List, [], ◌∷◌, Some, None, refl, sym, subst, arith, length, ◌^◌}
 use Rattle.std.proofs.lemmas.Bool.Decides.{nat_tests}
-use Rattle.list_machine.specs.Words.{word, decode, encode, item_in, link_to, one_more, raised, holding}
+use Rattle.list_machine.specs.Words.{word, blank, decode, encode, item_in, link_to, one_more, raised, holding}
 use Rattle.list_machine.specs.State.{zero_words, put_claim, put_slot, put_link}
-use Rattle.list_machine.specs.Facts.{IsAt, claimed_chain, chain_of, left_in}
+use Rattle.list_machine.specs.Grants.{granted_in}
+use Rattle.list_machine.specs.Facts.{IsAt, claimed_chain, chain_of}
 use Rattle.list_machine.specs.Rule.{IsFree}
 use Rattle.list_machine.specs.Steps.{opening, opening_leaf, with_leaf, with_claimed, with_stage, with_grant, with_fact, after_split, newcomer, after_claim, guest_with, after_shut, mark_shows, IsGrantable}
 use Rattle.list_machine.specs.Machine.{State, state, claims, files, links, shuts, marks, splits, Run, none, more}
+use Rattle.list_machine.specs.Moves.{chunk_linked, seat_made, place_claimed, item_filed, list_shut, slot_marked, seat_joined, may_clear, word_cleared}
 use Rattle.list_machine.specs.declared.views.Grant.{Grant}
 use Rattle.list_machine.specs.declared.views.LinkWord.TheVariants.{OfList}
 use Rattle.list_machine.specs.declared.views.Fact.TheVariants.{Item, Link}
@@ -56,7 +58,7 @@ swept = state (put_slot shut.words 4 0 (raised (shut.words.slot 4 0))) (with_fac
 
 grantable : IsGrantable linked.owner.book.leaves grants
 grantable = record { lists = here; few = omega arith } where
-  here : (l : ℕ) → 0 < left_in l grants → (a : Leaf) × IsAt linked.owner.book.leaves l a × (a.stage ≡ Open) × (a.granted + left_in l grants ≤ 256 * length a.claimed)
+  here : (l : ℕ) → 0 < granted_in l grants → (a : Leaf) × IsAt linked.owner.book.leaves l a × (a.stage ≡ Open) × (a.granted + granted_in l grants ≤ 256 * length a.claimed)
   here zero some = (with_claimed opening_leaf 4, refl, refl, omega arith)
   here (suc l) some = absurd (grind (arith, nat_tests))
 
@@ -76,3 +78,14 @@ life = more shut swept (more filed shut (more claimed filed (more granted claime
 -- the item stays in its slot
 still_there : swept.words.slot 4 0 ≡ word 10 true
 still_there = refl
+
+-- the same life, move by move
+by_moves : slot_marked (list_shut (item_filed (place_claimed (seat_made (chunk_linked (state zero_words (opening 1) []) 0 4) grants) 0 0) 0 0 4 0 9) 0) 0 ≡ swept
+by_moves = refl
+
+-- it is cleared once nobody reaches it: its own link first, and then its first slot
+waits : (may_clear swept ≡ false) × (may_clear (seat_joined swept 0) ≡ true)
+waits = (refl, refl)
+
+is_cleared : ((word_cleared (seat_joined swept 0)).words.first 0 ≡ 0) × ((word_cleared (word_cleared (seat_joined swept 0))).words.slot 4 0 ≡ blank)
+is_cleared = (refl, refl)

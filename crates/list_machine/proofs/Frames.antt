@@ -5,7 +5,8 @@ use mathlib.Core.Logic.{dite}
 use native.Mathlib.Decide.{ℕ_discrete}
 use Rattle.list_machine.specs.Words.{Word, blank}
 use Rattle.list_machine.specs.State.{Words, link_in}
-use Rattle.list_machine.specs.Facts.{IsAt, total, HasChunk, chain_of, Chain, claimed_chain, owned_chain, LeadsTo, list_of, Holds, Within, place_of, Stands, Reached, left_in}
+use Rattle.list_machine.specs.Grants.{granted_in}
+use Rattle.list_machine.specs.Facts.{IsAt, total, HasChunk, chain_of, Chain, claimed_chain, owned_chain, LeadsTo, list_of, Holds, Within, place_of, Stands, Reached}
 use Rattle.list_machine.specs.Rule.{IsStanding, HoldsAt, IsList, IsFree, AreLists, IsBegun, AreOrdered, OfLeaf, IsStated, IsClaimed, IsSeat, IsOwned, AreKnown}
 use Rattle.list_machine.specs.declared.views.LinkWord.{LinkWord}
 use Rattle.list_machine.specs.declared.views.LinkWord.TheVariants.{OfList, OfChunk}
@@ -75,7 +76,7 @@ stands_if cleared birth Open b le h = tt
 stands_if cleared birth (Swept p f m) b le h = tt
 stands_if cleared birth (Cleared p n) b le h = omega arith
 
-pub must_be_out : (w : Words) (leaves : List Leaf) (v : Guest) → IsSeat w leaves v → ((v.facts ≡ []) × (v.claim ≡ Nothing) × ((l : ℕ) → left_in l v.grants ≡ 0) → ⊥) → v.out ≡ true
+pub must_be_out : (w : Words) (leaves : List Leaf) (v : Guest) → IsSeat w leaves v → ((v.facts ≡ []) × (v.claim ≡ Nothing) × ((l : ℕ) → granted_in l v.grants ≡ 0) → ⊥) → v.out ≡ true
 must_be_out w leaves v x never = from v.out refl where
   from : (b : _) → v.out ≡ b → v.out ≡ true
   from true e = e
@@ -173,7 +174,7 @@ module _ (w w' : Words) (leaves : List Leaf) (l : ℕ) (a a' : Leaf) (lists : Ar
   pub known_frame : (facts : List Fact) (guests : List Guest) → AreKnown w leaves facts guests
       → ((j : ℕ) (v : Guest) → IsAt guests j v → v.out ≡ true → Reached v.birth a.stage → StaysIn w w' l a a' v)
       → ((k : ℕ) (f : Fact) → IsAt facts k f → list_of f ≡ l → IsOwned w f a → IsOwned w' f a')
-      → (w'.claim l).value + total (λ (v : Guest). left_in l v.grants) guests ≤ a'.granted
+      → (w'.claim l).value + total (λ (v : Guest). granted_in l v.grants) guests ≤ a'.granted
       → AreKnown w' leaves' facts guests
   known_frame facts guests s stays owned granted = record {
     seats = λ j v p. seat_on j v p (s.seats j v p);
@@ -181,8 +182,8 @@ module _ (w w' : Words) (leaves : List Leaf) (l : ℕ) (a a' : Leaf) (lists : Ar
         (λ ne e at t. (⊎_elim (λ z. holds_on f e at ne z.1 t.0) (λ is. closed_on f e at ne is t.0) t.1, t.1))
         (λ is t. owned k f p is t);
     apart = s.apart;
-    granted = each_set (λ (h : ℕ) (e : Leaf). (w'.claim h).value + total (λ (v : Guest). left_in h v.grants) guests ≤ e.granted) leaves l a'
-        (λ h e ne p. subst (λ (x : Word). x.value + total (λ (v : Guest). left_in h v.grants) guests ≤ e.granted) (sym (other.claims h ne)) (s.granted h e p)) granted;
+    granted = each_set (λ (h : ℕ) (e : Leaf). (w'.claim h).value + total (λ (v : Guest). granted_in h v.grants) guests ≤ e.granted) leaves l a'
+        (λ h e ne p. subst (λ (x : Word). x.value + total (λ (v : Guest). granted_in h v.grants) guests ≤ e.granted) (sym (other.claims h ne)) (s.granted h e p)) granted;
   } where
     seat_on : (j : ℕ) (v : Guest) → IsAt guests j v → IsSeat w leaves v → IsSeat w' leaves' v
     seat_on j v at y = record {

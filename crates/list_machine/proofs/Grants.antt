@@ -1,12 +1,11 @@
 -- Grants that are used.
 use Rattle.std.proofs.Common.{◌≡◌, ℕ, ◌+◌, ◌-◌, ◌<◌, ◌≢◌, Bool, true, false, cond, List, [], ◌∷◌, sym, refl, ap, ◌∙◌, arith}
-use Rattle.std.specs.Prelude.{nat_eq, nat_lt, ◌&&◌}
+use Rattle.std.specs.Prelude.{nat_eq, nat_le, ◌&&◌}
 use Rattle.std.proofs.lemmas.Bool.Decides.{nat_tests}
-use Rattle.list_machine.specs.Facts.{left_in}
-use Rattle.list_machine.specs.Steps.{use_of}
+use Rattle.list_machine.specs.Grants.{granted_in, use_grant}
 use Rattle.list_machine.specs.declared.views.Grant.{Grant}
 
-left_if : (h : ℕ) (b : Bool) (xs ys : List Grant) → left_in h (cond b xs ys) ≡ cond b (left_in h xs) (left_in h ys)
+left_if : (h : ℕ) (b : Bool) (xs ys : List Grant) → granted_in h (cond b xs ys) ≡ cond b (granted_in h xs) (granted_in h ys)
 left_if h true xs ys = refl
 left_if h false xs ys = refl
 
@@ -23,15 +22,15 @@ there true false false n rest used ne e = omega arith
 there false c d n rest used ne e = ap (λ (x : ℕ). cond d n 0 + x) e
 
 -- one grant of the list is gone
-pub used_here : (l : ℕ) (gs : List Grant) → 0 < left_in l gs → left_in l (use_of l gs) + 1 ≡ left_in l gs
+pub used_here : (l : ℕ) (gs : List Grant) → 0 < granted_in l gs → granted_in l (use_grant l gs) + 1 ≡ granted_in l gs
 used_here l [] h = absurd (omega arith)
 used_here l (g ∷ gs) h =
-    ap (λ (x : ℕ). x + 1) (left_if l (nat_eq g.list l && nat_lt 0 g.n) (record { list = g.list; n = g.n - 1 } ∷ gs) (g ∷ use_of l gs))
-    ∙ here (nat_eq g.list l) (nat_lt 0 g.n) g.n (left_in l gs) (left_in l (use_of l gs)) (λ e. grind (arith, nat_tests)) (λ e. grind (arith, nat_tests)) h (used_here l gs)
+    ap (λ (x : ℕ). x + 1) (left_if l (nat_eq g.list l && nat_le 1 g.n) (record { list = g.list; n = g.n - 1 } ∷ gs) (g ∷ use_grant l gs))
+    ∙ here (nat_eq g.list l) (nat_le 1 g.n) g.n (granted_in l gs) (granted_in l (use_grant l gs)) (λ e. grind (arith, nat_tests)) (λ e. grind (arith, nat_tests)) h (used_here l gs)
 
 -- and of no other
-pub used_else : (l h : ℕ) (gs : List Grant) → h ≢ l → left_in h (use_of l gs) ≡ left_in h gs
+pub used_else : (l h : ℕ) (gs : List Grant) → h ≢ l → granted_in h (use_grant l gs) ≡ granted_in h gs
 used_else l h [] ne = refl
 used_else l h (g ∷ gs) ne =
-    left_if h (nat_eq g.list l && nat_lt 0 g.n) (record { list = g.list; n = g.n - 1 } ∷ gs) (g ∷ use_of l gs)
-    ∙ there (nat_eq g.list l) (nat_lt 0 g.n) (nat_eq g.list h) g.n (left_in h gs) (left_in h (use_of l gs)) (λ e d. let p : g.list ≡ l = grind (arith, nat_tests) in let q : g.list ≡ h = grind (arith, nat_tests) in ne (sym q ∙ p)) (used_else l h gs ne)
+    left_if h (nat_eq g.list l && nat_le 1 g.n) (record { list = g.list; n = g.n - 1 } ∷ gs) (g ∷ use_grant l gs)
+    ∙ there (nat_eq g.list l) (nat_le 1 g.n) (nat_eq g.list h) g.n (granted_in h gs) (granted_in h (use_grant l gs)) (λ e d. let p : g.list ≡ l = grind (arith, nat_tests) in let q : g.list ≡ h = grind (arith, nat_tests) in ne (sym q ∙ p)) (used_else l h gs ne)

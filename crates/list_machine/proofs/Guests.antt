@@ -2,7 +2,8 @@
 use Rattle.std.proofs.Common.{◌≡◌, ℕ, zero, suc, ◌≤◌, ◌≢◌, true, false, List, ◌∷◌, set, sym, ap, ◌∙◌, subst, arith}
 use Rattle.std.proofs.lemmas.Option.{same_Some}
 use Rattle.list_machine.specs.State.{Words}
-use Rattle.list_machine.specs.Facts.{IsAt, list_of, left_in}
+use Rattle.list_machine.specs.Grants.{granted_in}
+use Rattle.list_machine.specs.Facts.{IsAt, list_of}
 use Rattle.list_machine.specs.Rule.{OfLeaf, IsStated, IsSeat, IsOwned, AreKnown, AreCounted, counts}
 use Rattle.list_machine.specs.declared.views.Fact.{Fact}
 use Rattle.list_machine.specs.declared.views.Leaf.{Leaf}
@@ -13,14 +14,14 @@ use Rattle.list_machine.specs.declared.views.Guest.{Guest}
 use Rattle.list_machine.proofs.Lists.{at_set, each_set, total_set, total_same}
 
 pub guest_known : (w : Words) (leaves : List Leaf) (facts : List Fact) (guests : List Guest) (i : ℕ) (v v' : Guest) → AreKnown w leaves facts guests → IsAt guests i v → IsSeat w leaves v'
-    → ((l : ℕ) → left_in l v'.grants ≤ left_in l v.grants) → ((j l k : ℕ) (u : Guest) → j ≢ i → IsAt guests j u → v'.claim ≡ Place l k → u.claim ≡ Place l k → ⊥) → AreKnown w leaves facts (set guests i v')
+    → ((l : ℕ) → granted_in l v'.grants ≤ granted_in l v.grants) → ((j l k : ℕ) (u : Guest) → j ≢ i → IsAt guests j u → v'.claim ≡ Place l k → u.claim ≡ Place l k → ⊥) → AreKnown w leaves facts (set guests i v')
 guest_known w leaves facts guests i v v' s at seat fewer mine = record {
   seats = each_set (λ _ (u : Guest). IsSeat w leaves u) guests i v' (λ j u _ p. s.seats j u p) seat;
   owner = s.owner;
   apart = λ j h l k u x p q c d. at_set guests i j v' u (j ≡ h) p
       (λ e is. at_set guests i h v' x (j ≡ h) q (λ e' _. e ∙ sym e') (λ ne old. absurd (mine h l k x ne old (ap (λ (y : Guest). y.claim) is ∙ c) d)))
       (λ ne old. at_set guests i h v' x (j ≡ h) q (λ _ is. absurd (mine j l k u ne old (ap (λ (y : Guest). y.claim) is ∙ d) c)) (λ _ old'. s.apart j h l k u x old old' c d));
-  granted = λ l a p. let sum = total_set (λ (u : Guest). left_in l u.grants) guests i v v' at in let old = s.granted l a p in let less = fewer l in omega arith;
+  granted = λ l a p. let sum = total_set (λ (u : Guest). granted_in l u.grants) guests i v v' at in let old = s.granted l a p in let less = fewer l in omega arith;
 }
 
 pub guest_counted : (shuts cleared : ℕ) (out : List ℕ) (guests : List Guest) (i : ℕ) (v v' : Guest) → AreCounted shuts cleared out guests → IsAt guests i v → v'.out ≡ v.out → v'.birth ≡ v.birth → AreCounted shuts cleared out (set guests i v')

@@ -4,7 +4,7 @@ use mathlib.Core.Logic.{dite}
 use native.Mathlib.Decide.{dec_le}
 use Rattle.list_machine.specs.Words.{Word, link_to}
 use Rattle.list_machine.specs.State.{Words, link_at}
-use Rattle.list_machine.specs.Facts.{IsAt, Chain, claimed_chain, owned_chain, chain_of, HasChunk, list_of, is_shut}
+use Rattle.list_machine.specs.Facts.{IsAt, Chain, claimed_chain, owned_chain, chain_of, HasChunk, list_of, Holds, is_shut}
 use Rattle.list_machine.specs.Rule.{IsStanding, IsSwept, IsOwned, Sound}
 use Rattle.list_machine.specs.Steps.{KnowsLink, IsNextMark, IsSweptPlace}
 use Rattle.list_machine.specs.declared.views.LinkWord.{LinkWord}
@@ -85,3 +85,20 @@ module _ (w : Words) (o : Owner) (guests : List Guest) (s : Sound w o guests) wh
 
   pub no_item : (l h c k x p q : ℕ) → IsAt o.facts p (Item l c k x) → IsAt o.facts q (Empty h c k) → ⊥
   no_item l h c k x p q known known' = let a : (w.slot c k).value ≡ x + 1 = (s.known.owner p (Item l c k x) known).2.0 in let b : (w.slot c k).value ≡ 0 = ap (λ (n : Word). n.value) (s.known.owner q (Empty h c k) known').2.0 in omega arith
+
+  -- what the owner and the guests know is true now
+  pub owner_holds : (q : ℕ) (f : Fact) → IsAt o.facts q f → Holds w f
+  owner_holds q f known = (s.known.owner q f known).2.0
+
+  pub guest_holds : (j q : ℕ) (v : Guest) (f : Fact) → IsAt guests j v → IsAt v.facts q f → Holds w f
+  guest_holds j q v f at known = ((s.known.seats j v at).facts q f known).2.holds
+
+  -- an item that they know is in a chunk of its list
+  pub owner_has_chunk : (l c k x q : ℕ) → IsAt o.facts q (Item l c k x) → (a : Leaf) × IsAt o.book.leaves l a × HasChunk a c × (k < 256)
+  owner_has_chunk l c k x q known =
+      let t = s.known.owner q (Item l c k x) known in
+      let inside : HasChunk t.0 c × (k < 256) = ⊎_elim (λ z. z.1) (λ e. absurd (cc)) t.2.1 in
+      (t.0, t.1, inside.0, inside.1)
+
+  pub guest_has_chunk : (j l c k x q : ℕ) (v : Guest) → IsAt guests j v → IsAt v.facts q (Item l c k x) → (a : Leaf) × IsAt o.book.leaves l a × HasChunk a c × (k < 256)
+  guest_has_chunk j l c k x q v at known = let t = (s.known.seats j v at).facts q (Item l c k x) known in let inside : HasChunk t.0 c × (k < 256) = t.2.within in (t.0, t.1, inside.0, inside.1)

@@ -20,3 +20,9 @@ pub mod Knowledge
 pub mod WalkedLinks
 pub mod Openings
 pub mod Rows
+pub mod Moves
+pub mod ClearMoves
+pub mod WordsLeft
+pub mod Sweeps
+pub mod Outlasting
+pub mod DoneSweeps

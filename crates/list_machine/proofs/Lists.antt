@@ -1,6 +1,6 @@
 -- Lists read by place, with one item changed or one more, and sums over them.
 use Rattle.std.proofs.Common.{◌≡◌, ℕ, zero, suc, ◌+◌, ◌<◌, ◌≤◌, ◌≢◌, ◌⊎◌, inl, inr, Bool, true, false, cond, List, [], ◌∷◌, ◌++◌, length, set, sym, refl, ap, ◌∙◌, subst, arith}
-use Rattle.std.specs.Prelude.{Some, filter}
+use Rattle.std.specs.Prelude.{Some, filter, slice_index, slice_index_or}
 use Rattle.std.proofs.lemmas.Option.{none-some, same_Some}
 use mathlib.Core.Logic.{dite}
 use native.Mathlib.Decide.{ℕ_discrete}
@@ -12,6 +12,11 @@ module _ {A : Type 0} where
 
   pub at_nothing : (k : ℕ) (a : A) → IsAt [] k a → ⊥
   at_nothing k a p = none-some a p
+
+  pub or_is : (l : List A) (i : ℕ) (a d : A) → IsAt l i a → slice_index_or l i d ≡ a
+  or_is [] i a d p = absurd (none-some a p)
+  or_is (x ∷ xs) zero a d p = same_Some x a p
+  or_is (x ∷ xs) (suc i) a d p = or_is xs i a d p
 
   -- an item of a list with one change is the new one, or an old one
   pub at_set : (l : List A) (i j : ℕ) (a b : A) (F : Type 0) → IsAt (set l i a) j b → (j ≡ i → a ≡ b → F) → (j ≢ i → IsAt l j b → F) → F
@@ -113,3 +118,12 @@ found_in (x ∷ xs) d = dite (ℕ_discrete x d) (λ e. inl (0, ap Some e)) (λ n
   later : x ≢ d → ((r : ℕ) × IsAt xs r d) ⊎ ((r : ℕ) → IsAt xs r d → ⊥) → ((r : ℕ) × IsAt (x ∷ xs) r d) ⊎ ((r : ℕ) → IsAt (x ∷ xs) r d → ⊥)
   later ne (inl t) = inl (suc t.0, t.1)
   later ne (inr n) = inr (past n ne)
+
+-- a number of a list, read with 0 past its end
+pub index_is : (xs : List ℕ) (k x : ℕ) → IsAt xs k x → slice_index xs k ≡ x
+index_is [] k x p = absurd (none-some x p)
+index_is (y ∷ ys) zero x p = same_Some y x p
+index_is (y ∷ ys) (suc k) x p = index_is ys k x p
+
+pub index_at : (xs : List ℕ) (k : ℕ) → k < length xs → IsAt xs k (slice_index xs k)
+index_at xs k lt = let d = some_at xs k lt in subst (λ (x : ℕ). IsAt xs k x) (sym (index_is xs k d.0 d.1)) d.1

@@ -5,7 +5,8 @@ use Rattle.std.proofs.lemmas.Option.{none-some, same_Some}
 use mathlib.Core.Logic.{dite}
 use native.Mathlib.Decide.{ℕ_discrete}
 use Rattle.list_machine.specs.State.{Words}
-use Rattle.list_machine.specs.Facts.{IsAt, total, Chain, claimed_chain, owned_chain, chain_of, list_of, Within, is_shut, place_of, Reached, left_in}
+use Rattle.list_machine.specs.Grants.{granted_in}
+use Rattle.list_machine.specs.Facts.{IsAt, total, Chain, claimed_chain, owned_chain, chain_of, list_of, Within, is_shut, place_of, Reached}
 use Rattle.list_machine.specs.Rule.{HoldsAt, IsList, AreLists, IsBegun, AreOrdered, OfLeaf, IsStated, IsClaimed, IsSeat, IsOwned, AreKnown, AreCounted, counts, Sound}
 use Rattle.list_machine.specs.Steps.{with_grant, leaves_after_grants, is_open_at, after_split, newcomer, IsGrantable, nobody, after_join}
 use Rattle.list_machine.specs.declared.views.Grant.{Grant}
@@ -21,14 +22,14 @@ use Rattle.list_machine.proofs.Stages.{as_open, within_more}
 use Rattle.list_machine.proofs.Frames.{stands_if}
 use Rattle.list_machine.proofs.Guests.{guest_known, owner_knows}
 
-pub granting_at : (es : List Leaf) (gs : List Grant) (n i m : ℕ) (a : Leaf) → m ≡ n + i → IsAt es i a → IsAt (leaves_after_grants n es gs) i (with_grant a (left_in m gs))
+pub granting_at : (es : List Leaf) (gs : List Grant) (n i m : ℕ) (a : Leaf) → m ≡ n + i → IsAt es i a → IsAt (leaves_after_grants n es gs) i (with_grant a (granted_in m gs))
 granting_at [] gs n i m a is p = absurd (none-some a p)
-granting_at (e ∷ es) gs n zero m a is p = let same : n ≡ m = omega arith in let d = same_Some e a p in λ t. Some (with_grant (d t) (left_in (same t) gs))
+granting_at (e ∷ es) gs n zero m a is p = let same : n ≡ m = omega arith in let d = same_Some e a p in λ t. Some (with_grant (d t) (granted_in (same t) gs))
 granting_at (e ∷ es) gs n (suc i) m a is p = granting_at es gs (suc n) i m a (omega arith) p
 
-pub each_granting : (P : ℕ → Leaf → Type 0) (es : List Leaf) (gs : List Grant) (n : ℕ) → ((i m : ℕ) (a : Leaf) → m ≡ n + i → IsAt es i a → P i (with_grant a (left_in m gs))) → (i : ℕ) (e : Leaf) → IsAt (leaves_after_grants n es gs) i e → P i e
+pub each_granting : (P : ℕ → Leaf → Type 0) (es : List Leaf) (gs : List Grant) (n : ℕ) → ((i m : ℕ) (a : Leaf) → m ≡ n + i → IsAt es i a → P i (with_grant a (granted_in m gs))) → (i : ℕ) (e : Leaf) → IsAt (leaves_after_grants n es gs) i e → P i e
 each_granting P [] gs n h i e p = absurd (none-some e p)
-each_granting P (a ∷ es) gs n h zero e p = subst (P 0) (same_Some (with_grant a (left_in n gs)) e p) (h 0 n a (omega arith) refl)
+each_granting P (a ∷ es) gs n h zero e p = subst (P 0) (same_Some (with_grant a (granted_in n gs)) e p) (h 0 n a (omega arith) refl)
 each_granting P (a ∷ es) gs n h (suc i) e p = each_granting (λ (k : ℕ). P (suc k)) es gs (suc n) (λ k m b is q. h (suc k) m b (omega arith) q) i e p
 
 grant_chain : (a : Leaf) (n : ℕ) (x : Chain) (r c : ℕ) → IsAt (chain_of a x) r c → IsAt (chain_of (with_grant a n) x) r c
@@ -78,43 +79,43 @@ module _ (w : Words) (o : Owner) (guests : List Guest) (s : Sound w o guests) (g
   abbrev v : Guest
   v = newcomer o gs
 
-  here : (l : ℕ) (a : Leaf) → IsAt leaves l a → IsAt leaves' l (with_grant a (left_in l gs))
+  here : (l : ℕ) (a : Leaf) → IsAt leaves l a → IsAt leaves' l (with_grant a (granted_in l gs))
   here l a p = granting_at leaves gs 0 l l a (omega arith) p
 
-  each : (P : ℕ → Leaf → Type 0) → ((l : ℕ) (a : Leaf) → IsAt leaves l a → P l (with_grant a (left_in l gs))) → (l : ℕ) (e : Leaf) → IsAt leaves' l e → P l e
-  each P h l e p = each_granting P leaves gs 0 (λ i m a is q. let same : i ≡ m = omega arith in subst (λ (k : ℕ). P i (with_grant a (left_in k gs))) same (h i a q)) l e p
+  each : (P : ℕ → Leaf → Type 0) → ((l : ℕ) (a : Leaf) → IsAt leaves l a → P l (with_grant a (granted_in l gs))) → (l : ℕ) (e : Leaf) → IsAt leaves' l e → P l e
+  each P h l e p = each_granting P leaves gs 0 (λ i m a is q. let same : i ≡ m = omega arith in subst (λ (k : ℕ). P i (with_grant a (granted_in k gs))) same (h i a q)) l e p
 
-  leaf_on : (l : ℕ) (P : Leaf → Type 0) → ((a : Leaf) → P a → P (with_grant a (left_in l gs))) → OfLeaf leaves l P → OfLeaf leaves' l P
-  leaf_on l P on t = (with_grant t.0 (left_in l gs), here l t.0 t.1, on t.0 t.2)
+  leaf_on : (l : ℕ) (P : Leaf → Type 0) → ((a : Leaf) → P a → P (with_grant a (granted_in l gs))) → OfLeaf leaves l P → OfLeaf leaves' l P
+  leaf_on l P on t = (with_grant t.0 (granted_in l gs), here l t.0 t.1, on t.0 t.2)
 
   within_on : (a : Leaf) (n : ℕ) (f : Fact) → Within a f → Within (with_grant a n) f
   within_on a n f h = within_more a (with_grant a n) (grant_chain a n) f h
 
   stated_on : (b : ℕ) (f : Fact) → OfLeaf leaves (list_of f) (IsStated w b f) → OfLeaf leaves' (list_of f) (IsStated w b f)
-  stated_on b f t = leaf_on (list_of f) (IsStated w b f) (λ a y. record { reached = y.reached; within = within_on a (left_in (list_of f) gs) f y.within; holds = y.holds }) t
+  stated_on b f t = leaf_on (list_of f) (IsStated w b f) (λ a y. record { reached = y.reached; within = within_on a (granted_in (list_of f) gs) f y.within; holds = y.holds }) t
 
-  list_on : (l : ℕ) (a : Leaf) → IsAt leaves l a → IsList (w.claim l) (w.first l) w.next w.slot (with_grant a (left_in l gs))
-  list_on l a p = let y = s.shape.lists.lists l a p in dite (ℕ_discrete (left_in l gs) 0)
-      (λ e. let same : a.granted ≡ a.granted + left_in l gs = omega arith in
+  list_on : (l : ℕ) (a : Leaf) → IsAt leaves l a → IsList (w.claim l) (w.first l) w.next w.slot (with_grant a (granted_in l gs))
+  list_on l a p = let y = s.shape.lists.lists l a p in dite (ℕ_discrete (granted_in l gs) 0)
+      (λ e. let same : a.granted ≡ a.granted + granted_in l gs = omega arith in
       subst (IsList (w.claim l) (w.first l) w.next w.slot) (λ i. record { claimed = a.claimed; owned = a.owned; granted = same i; used = a.used; stage = a.stage }) y)
       (λ ne. let t = fit.lists l (omega arith) in let is = at_same leaves l t.0 a t.1 p in let unshut : a.stage ≡ Open = ap (λ (e : Leaf). e.stage) (sym is) ∙ t.2 in
-      let room : a.granted + left_in l gs ≤ 256 * length a.claimed = subst (λ (e : Leaf). e.granted + left_in l gs ≤ 256 * length e.claimed) is t.3 in
+      let room : a.granted + granted_in l gs ≤ 256 * length a.claimed = subst (λ (e : Leaf). e.granted + granted_in l gs ≤ 256 * length e.claimed) is t.3 in
       let z = as_open (w.claim l) (w.first l) w.next w.slot a unshut y in record {
         counted = let few = y.counted in omega arith;
         shown = y.shown;
-        now = subst (HoldsAt (w.claim l) (w.first l) w.next w.slot (with_grant a (left_in l gs))) (sym unshut) (
-          record { filled = z.0.filled; unused = z.0.unused; used = z.0.used; room = room; linked = z.0.linked; ended = z.0.ended; small = λ c has. z.0.small c (has.0, has.1, grant_chain_was a (left_in l gs) has.0 has.1 c has.2) },
-          λ c k has lt. z.1 c k (has.0, has.1, grant_chain_was a (left_in l gs) has.0 has.1 c has.2) lt,
+        now = subst (HoldsAt (w.claim l) (w.first l) w.next w.slot (with_grant a (granted_in l gs))) (sym unshut) (
+          record { filled = z.0.filled; unused = z.0.unused; used = z.0.used; room = room; linked = z.0.linked; ended = z.0.ended; small = λ c has. z.0.small c (has.0, has.1, grant_chain_was a (granted_in l gs) has.0 has.1 c has.2) },
+          λ c k has lt. z.1 c k (has.0, has.1, grant_chain_was a (granted_in l gs) has.0 has.1 c has.2) lt,
         );
       })
 
   lists' : AreLists w leaves'
   lists' = record {
     lists = each (λ (l : ℕ) (e : Leaf). IsList (w.claim l) (w.first l) w.next w.slot e) list_on;
-    free = λ c none. s.shape.lists.free c (λ l a p has. none l (with_grant a (left_in l gs)) (here l a p) (has.0, has.1, grant_chain a (left_in l gs) has.0 has.1 c has.2));
+    free = λ c none. s.shape.lists.free c (λ l a p has. none l (with_grant a (granted_in l gs)) (here l a p) (has.0, has.1, grant_chain a (granted_in l gs) has.0 has.1 c has.2));
     once = λ l h a e x y r q c p p' m n. each (λ (l : ℕ) (a : Leaf). IsAt (chain_of a x) r c → (l ≡ h) × (x ≡ y) × (r ≡ q))
         (λ l a p m. each (λ (h : ℕ) (e : Leaf). IsAt (chain_of e y) q c → (l ≡ h) × (x ≡ y) × (r ≡ q))
-        (λ h e p' n. s.shape.lists.once l h a e x y r q c p p' (grant_chain_was a (left_in l gs) x r c m) (grant_chain_was e (left_in h gs) y q c n)) h e p' n) l a p m;
+        (λ h e p' n. s.shape.lists.once l h a e x y r q c p p' (grant_chain_was a (granted_in l gs) x r c m) (grant_chain_was e (granted_in h gs) y q c n)) h e p' n) l a p m;
     few = fit.few;
   }
 
@@ -147,12 +148,12 @@ module _ (w : Words) (o : Owner) (guests : List Guest) (s : Sound w o guests) (g
   known' : AreKnown w leaves' o.facts (guests ++ v ∷ [])
   known' = record {
     seats = λ j u p. at_more guests v j u (IsSeat w leaves' u) p (λ old. seat_on u (s.known.seats j u old)) (λ _ e. subst (IsSeat w leaves') e newborn);
-    owner = λ k f p. leaf_on (list_of f) (IsOwned w f) (λ a t. (t.0, ⊎_elim (λ z. inl (z.0, within_on a (left_in (list_of f) gs) f z.1)) inr t.1)) (s.known.owner k f p);
+    owner = λ k f p. leaf_on (list_of f) (IsOwned w f) (λ a t. (t.0, ⊎_elim (λ z. inl (z.0, within_on a (granted_in (list_of f) gs) f z.1)) inr t.1)) (s.known.owner k f p);
     apart = λ j h l i u x p q c d. at_more guests v j u (j ≡ h) p
         (λ p'. at_more guests v h x (j ≡ h) q (λ q'. s.known.apart j h l i u x p' q' c d) (λ _ e. absurd (no_claim x l i e d)))
         (λ _ e. absurd (no_claim u l i e c));
-    granted = each (λ (l : ℕ) (e : Leaf). (w.claim l).value + total (λ (u : Guest). left_in l u.grants) (guests ++ v ∷ []) ≤ e.granted)
-        (λ l a p. let y = s.known.granted l a p in let z = total_more (λ (u : Guest). left_in l u.grants) guests v in omega arith);
+    granted = each (λ (l : ℕ) (e : Leaf). (w.claim l).value + total (λ (u : Guest). granted_in l u.grants) (guests ++ v ∷ []) ≤ e.granted)
+        (λ l a p. let y = s.known.granted l a p in let z = total_more (λ (u : Guest). granted_in l u.grants) guests v in omega arith);
   } where
     no_claim : (u : Guest) (l i : ℕ) → v ≡ u → u.claim ≡ Place l i → ⊥
     no_claim u l i e c = let d : u.claim ≡ Nothing = ap (λ (g : Guest). g.claim) (sym e) in let z = sym c ∙ d in absurd (cc)

@@ -6,7 +6,8 @@ use mathlib.Core.Logic.{dite}
 use native.Mathlib.Decide.{ℕ_discrete}
 use Rattle.list_machine.specs.Words.{Word, raised}
 use Rattle.list_machine.specs.State.{Words, put_claim}
-use Rattle.list_machine.specs.Facts.{IsAt, total, claimed_chain, owned_chain, Holds, Within, place_of, left_in}
+use Rattle.list_machine.specs.Grants.{granted_in}
+use Rattle.list_machine.specs.Facts.{IsAt, total, claimed_chain, owned_chain, Holds, Within, place_of}
 use Rattle.list_machine.specs.Rule.{IsList, IsBegun, AreLists, AreOrdered, AreKnown, AreCounted, Sound}
 use Rattle.list_machine.specs.Steps.{with_stage, after_shut}
 use Rattle.list_machine.specs.declared.views.Fact.{Fact}
@@ -90,7 +91,7 @@ module _ (w : Words) (o : Owner) (guests : List Guest) (s : Sound w o guests) (l
         };
       })
       (λ k f p is t. (holds_on f t.0, ⊎_elim (λ z. inl (tt, within_on f z.1)) inr t.1))
-      (subst (λ (y : Word). y.value + total (λ (v : Guest). left_in l v.grants) guests ≤ a.granted) (sym (put_here w.claim l (raised x))) (s.known.granted l a leaf))
+      (subst (λ (y : Word). y.value + total (λ (v : Guest). granted_in l v.grants) guests ≤ a.granted) (sym (put_here w.claim l (raised x))) (s.known.granted l a leaf))
 
   order' : AreOrdered leaves' (o.book.order ++ l ∷ []) o.book.cleared
   order' = let y = s.shape.order in record {

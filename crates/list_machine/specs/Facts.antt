@@ -1,8 +1,7 @@
 -- Facts about words, and which lists a seat reaches.
-use Rattle.std.specs.Prelude.{◌≡◌, ℕ, suc, ◌+◌, ◌<◌, ◌≤◌, Bool, true, false, List, [], ◌∷◌, slice_get, Option, None, Some, if◌then◌else◌, ◌==◌}
+use Rattle.std.specs.Prelude.{◌≡◌, ℕ, suc, ◌+◌, ◌<◌, ◌≤◌, Bool, true, false, List, [], ◌∷◌, slice_get, Option, None, Some}
 use Rattle.list_machine.specs.Words.{word, link_to}
 use Rattle.list_machine.specs.State.{Words, link_at}
-use Rattle.list_machine.specs.declared.views.Grant.{Grant}
 use Rattle.list_machine.specs.declared.views.LinkWord.{LinkWord}
 use Rattle.list_machine.specs.declared.views.LinkWord.TheVariants.{OfList, OfChunk}
 use Rattle.list_machine.specs.declared.views.Fact.{Fact}
@@ -83,7 +82,3 @@ abbrev pub Reached : ℕ → Stage → Type 0
 Reached birth Open = Unit {0}
 Reached birth (Swept p f m) = birth ≤ p
 Reached birth (Cleared p n) = birth ≤ p
-
--- how many places of the list may be claimed with these grants
-abbrev pub left_in : ℕ → List Grant → ℕ
-left_in l gs = total (λ (g : Grant). if g.list == l then g.n else 0) gs

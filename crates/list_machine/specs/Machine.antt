@@ -2,7 +2,8 @@
 use Rattle.std.specs.Prelude.{◌≡◌, ◌≢◌, ℕ, suc, ◌+◌, ◌*◌, ◌<◌, ◌^◌, true, List, ◌∷◌, ◌++◌, [], length, slice_set}
 use Rattle.list_machine.specs.Words.{blank, one_more, raised, holding, link_to}
 use Rattle.list_machine.specs.State.{Words, link_at, put_claim, put_slot, put_link}
-use Rattle.list_machine.specs.Facts.{IsAt, Chain, chain_of, LeadsTo, left_in}
+use Rattle.list_machine.specs.Grants.{granted_in}
+use Rattle.list_machine.specs.Facts.{IsAt, Chain, chain_of, LeadsTo}
 use Rattle.list_machine.specs.Rule.{IsFree, Sound}
 use Rattle.list_machine.specs.Steps.{guest_with, after_claim, KnowsChunk, KnowsLink, with_leaf, with_fact, with_stage, with_claimed, with_owned, with_one_used, without_chains, after_shut, IsNextMark, mark_shows, HasEnded, IsUnreached, after_first_clear, after_split, newcomer, IsGrantable, nobody, after_join}
 use Rattle.list_machine.specs.declared.views.Grant.{Grant}
@@ -32,7 +33,7 @@ IsSound s = Sound s.words s.owner s.guests
 -- One step of one seat. What a seat may do hangs on its own view, and on the word that the step finds.
 pub data Step (s : State) : State → Type 0 where
   -- a filer uses a grant: the count of the list's claims rises
-  claims : (j l : ℕ) (v : Guest) → IsAt s.guests j v → v.claim ≡ Nothing → 0 < left_in l v.grants
+  claims : (j l : ℕ) (v : Guest) → IsAt s.guests j v → v.claim ≡ Nothing → 0 < granted_in l v.grants
       → Step s (state (put_claim s.words l (one_more (s.words.claim l))) s.owner (slice_set s.guests j (after_claim v l (s.words.claim l))))
   -- a filer files an item at its claim, where the slot is 0
   files : (j l r c k x : ℕ) (v : Guest) → IsAt s.guests j v → v.claim ≡ Place l (256 * r + k) → k < 256 → KnowsChunk v l r c → s.words.slot c k ≡ blank

@@ -2,7 +2,8 @@
 use Rattle.std.specs.Prelude.{◌≡◌, ◌≢◌, ℕ, suc, ◌+◌, ◌*◌, ◌<◌, ◌≤◌, ◌^◌, ◌⊎◌, true, false, if◌then◌else◌, ◌==◌, ◌&&◌, List, [], ◌++◌, length, slice_index, Some}
 use Rattle.list_machine.specs.Words.{Word, blank, link_to}
 use Rattle.list_machine.specs.State.{Words, link_in}
-use Rattle.list_machine.specs.Facts.{IsAt, total, HasChunk, chain_of, Chain, LeadsTo, list_of, Holds, Within, is_shut, place_of, Stands, Reached, left_in}
+use Rattle.list_machine.specs.Grants.{granted_in}
+use Rattle.list_machine.specs.Facts.{IsAt, total, HasChunk, chain_of, Chain, LeadsTo, list_of, Holds, Within, is_shut, place_of, Stands, Reached}
 use Rattle.list_machine.specs.declared.views.LinkWord.{LinkWord}
 use Rattle.list_machine.specs.declared.views.Fact.{Fact}
 use Rattle.list_machine.specs.declared.views.Fact.TheVariants.{Closed}
@@ -116,10 +117,10 @@ pub record IsClaimed (claim : Word) (slot : ℕ → ℕ → Word) (birth index :
 -- what a filer or a reader has
 pub record IsSeat (w : Words) (leaves : List Leaf) (v : Guest) : Type 0 where
   pub facts : (k : ℕ) (f : Fact) → IsAt v.facts k f → OfLeaf leaves (list_of f) (IsStated w v.birth f)
-  pub grants : (l : ℕ) → 0 < left_in l v.grants → OfLeaf leaves l (λ a. Reached v.birth a.stage)
+  pub grants : (l : ℕ) → 0 < granted_in l v.grants → OfLeaf leaves l (λ a. Reached v.birth a.stage)
   pub claim : (l i : ℕ) → v.claim ≡ Place l i → OfLeaf leaves l (IsClaimed (w.claim l) w.slot v.birth i)
   -- a seat that was joined has nothing
-  pub spent : v.out ≡ false → (v.facts ≡ []) × (v.claim ≡ Nothing) × ((l : ℕ) → left_in l v.grants ≡ 0)
+  pub spent : v.out ≡ false → (v.facts ≡ []) × (v.claim ≡ Nothing) × ((l : ℕ) → granted_in l v.grants ≡ 0)
 
 -- a fact of the owner: of a list whose clearing has begun it knows only that it is shut
 abbrev pub IsOwned : Words → Fact → Leaf → Type 0
@@ -132,7 +133,7 @@ pub record AreKnown (w : Words) (leaves : List Leaf) (facts : List Fact) (guests
   -- no place is claimed by two
   pub apart : (j h l i : ℕ) (v u : Guest) → IsAt guests j v → IsAt guests h u → v.claim ≡ Place l i → u.claim ≡ Place l i → j ≡ h
   -- what was claimed and what may be claimed was granted
-  pub granted : (l : ℕ) (a : Leaf) → IsAt leaves l a → (w.claim l).value + total (λ (v : Guest). left_in l v.grants) guests ≤ a.granted
+  pub granted : (l : ℕ) (a : Leaf) → IsAt leaves l a → (w.claim l).value + total (λ (v : Guest). granted_in l v.grants) guests ≤ a.granted
 
 -- 1 for a seat that is out with this birth
 abbrev pub counts : ℕ → Guest → ℕ

@@ -1,7 +1,8 @@
 -- The steps of the seats: what each does to the words and to the views.
 use Rattle.std.specs.Prelude.{◌≡◌, ℕ, zero, suc, ◌+◌, ◌*◌, ◌-◌, ◌<◌, ◌≤◌, ◌^◌, ◌⊎◌, Bool, true, false, if◌then◌else◌, ◌==◌, ◌&&◌, nat_lt, not, List, [], ◌∷◌, ◌++◌, length, slice_index, slice_set, filter, replicate}
 use Rattle.list_machine.specs.Words.{Word}
-use Rattle.list_machine.specs.Facts.{IsAt, total, Chain, claimed_chain, owned_chain, list_of, is_shut, left_in}
+use Rattle.list_machine.specs.Facts.{IsAt, total, Chain, claimed_chain, owned_chain, list_of, is_shut}
+use Rattle.list_machine.specs.Grants.{granted_in, use_grant}
 use Rattle.list_machine.specs.declared.views.Grant.{Grant}
 use Rattle.list_machine.specs.declared.views.LinkWord.{LinkWord}
 use Rattle.list_machine.specs.declared.views.LinkWord.TheVariants.{OfList, OfChunk}
@@ -18,11 +19,6 @@ use Rattle.list_machine.specs.declared.views.Guest.{Guest}
 
 -- Guests
 
--- the grants with one less for the list
-abbrev pub use_of : ℕ → List Grant → List Grant
-use_of l [] = []
-use_of l (g ∷ gs) = if g.list == l && nat_lt 0 g.n then record g { n = g.n - 1 } ∷ gs else g ∷ use_of l gs
-
 -- a guest with another claim and other facts
 abbrev pub guest_with : Guest → Unfiled → List Fact → Guest
 guest_with v claim facts = record v { claim = claim; facts = facts }
@@ -30,7 +26,7 @@ guest_with v claim facts = record v { claim = claim; facts = facts }
 -- a guest that has claimed in the list, whose claim word was x: it has the place, or knows that the list is shut
 abbrev pub after_claim : Guest → ℕ → Word → Guest
 after_claim v l x = record v {
-  grants = use_of l v.grants;
+  grants = use_grant l v.grants;
   claim = if x.high then Nothing else Place l x.value;
   facts = if x.high then Closed l ∷ v.facts else v.facts;
 }
@@ -41,7 +37,7 @@ KnowsChunk v l r c = (k : ℕ) × (from : LinkWord) × IsAt v.facts k (Link l fr
 
 -- the guest knows by itself that it reaches the list
 abbrev pub KnowsList : Guest → ℕ → Type 0
-KnowsList v l = (0 < left_in l v.grants) ⊎ (((i : ℕ) × (v.claim ≡ Place l i)) ⊎ ((k : ℕ) × (f : Fact) × IsAt v.facts k f × (list_of f ≡ l)))
+KnowsList v l = (0 < granted_in l v.grants) ⊎ (((i : ℕ) × (v.claim ≡ Place l i)) ⊎ ((k : ℕ) × (f : Fact) × IsAt v.facts k f × (list_of f ≡ l)))
 
 -- the guest knows that the link word is one of the list's, and leads to the rank r
 abbrev pub KnowsLink : Guest → ℕ → LinkWord → ℕ → Type 0
@@ -144,7 +140,7 @@ after_first_clear o l a = record o { book = book_after_first_clear o.book l a; f
 -- the lists, of which the first has the number l, with these grants
 abbrev pub leaves_after_grants : ℕ → List Leaf → List Grant → List Leaf
 leaves_after_grants l [] gs = []
-leaves_after_grants l (a ∷ es) gs = with_grant a (left_in l gs) ∷ leaves_after_grants (suc l) es gs
+leaves_after_grants l (a ∷ es) gs = with_grant a (granted_in l gs) ∷ leaves_after_grants (suc l) es gs
 
 -- whether the list of a fact is open
 abbrev pub is_open_at : List Leaf → ℕ → Bool
@@ -170,7 +166,7 @@ newcomer o gs = record { out = true; birth = length o.book.order; grants = gs; c
 
 -- grants that the owner may give: in open lists, for places that have their chunks
 pub record IsGrantable (leaves : List Leaf) (gs : List Grant) : Type 0 where
-  pub lists : (l : ℕ) → 0 < left_in l gs → (a : Leaf) × IsAt leaves l a × (a.stage ≡ Open) × (a.granted + left_in l gs ≤ 256 * length a.claimed)
+  pub lists : (l : ℕ) → 0 < granted_in l gs → (a : Leaf) × IsAt leaves l a × (a.stage ≡ Open) × (a.granted + granted_in l gs ≤ 256 * length a.claimed)
   pub few : total (λ (a : Leaf). a.granted) (leaves_after_grants 0 leaves gs) < 2 ^ 31
 
 -- a seat that was taken back

@@ -1,7 +1,7 @@
 ghost use Rattle.std.specs.Prelude.{◌≡◌, ℕ, suc, ◌+◌, ◌*◌, ◌^◌, ◌<◌, ◌≤◌, List, [], length, true};
 ghost use Rattle.list_machine.specs.Words.{link_to};
 ghost use Rattle.list_machine.specs.State.{link_at, zero_words};
-ghost use Rattle.list_machine.specs.Facts.{IsAt, Chain, chain_of, Holds, is_shut};
+ghost use Rattle.list_machine.specs.Facts.{IsAt, Chain, chain_of, HasChunk, Holds, Stands, is_shut, list_of};
 ghost use Rattle.list_machine.specs.Rule.{Sound};
 ghost use Rattle.list_machine.specs.Steps.{IsNextMark, IsSweptPlace, KnowsLink, opening};
 ghost use Rattle.list_machine.specs.Walks.{IsWalk, WalkedLink};
@@ -30,6 +30,14 @@ pub fn facts_outlast_steps()
     ensures { (s t : State) (j k : ℕ) (v u : Guest) (f : Fact) → IsSound s → Run s t
         → IsAt s.guests j v → IsAt v.facts k f → IsAt t.guests j u → u.out ≡ true
         → Holds t.words f }
+{}
+
+/// A law: what the owner knows of a list it knows until the clearing of the list begins, and so long it
+/// is true, whatever steps all seats make.
+pub fn facts_of_the_owner_outlast_steps()
+    ensures { (s t : State) (q : ℕ) (f : Fact) (e : Leaf) → IsSound s → Run s t
+        → IsAt s.owner.facts q f → IsAt t.owner.book.leaves (list_of f) e → Stands e.stage
+        → (k : ℕ) × IsAt t.owner.facts k f × Holds t.words f }
 {}
 
 /// A law: the way to a claimed place is there. Each link word that leads to a rank on the way holds the
@@ -86,4 +94,22 @@ pub fn facts_agree()
         → IsAt s.owner.facts p (Item l c k x) → IsAt s.owner.facts q (Item h c k y) → x ≡ y }
     ensures none { (s : State) (l h c k x p q : ℕ) → IsSound s
         → IsAt s.owner.facts p (Item l c k x) → IsAt s.owner.facts q (Empty h c k) → ⊥ }
+{}
+
+/// A law: what a seat knows is true now.
+pub fn facts_hold()
+    ensures owner { (s : State) (q : ℕ) (f : Fact) → IsSound s → IsAt s.owner.facts q f
+        → Holds s.words f }
+    ensures guests { (s : State) (j q : ℕ) (v : Guest) (f : Fact) → IsSound s
+        → IsAt s.guests j v → IsAt v.facts q f → Holds s.words f }
+{}
+
+/// A law: an item that a seat knows to be in a list stands in a chunk of the list's chains.
+pub fn items_stand_in_chains()
+    ensures owner { (s : State) (l c k x q : ℕ) → IsSound s
+        → IsAt s.owner.facts q (Item l c k x)
+        → (a : Leaf) × IsAt s.owner.book.leaves l a × HasChunk a c × (k < 256) }
+    ensures guests { (s : State) (j l c k x q : ℕ) (v : Guest) → IsSound s
+        → IsAt s.guests j v → IsAt v.facts q (Item l c k x)
+        → (a : Leaf) × IsAt s.owner.book.leaves l a × HasChunk a c × (k < 256) }
 {}

@@ -2,7 +2,8 @@
 use Rattle.std.proofs.Common.{◌≡◌, ℕ, ◌+◌, ◌*◌, ◌%◌, ◌<◌, Bool, true, false, List, get_or, sym, refl, ap, ◌∙◌, subst, arith}
 use Rattle.list_machine.specs.Words.{Word, decode, one_more}
 use Rattle.list_machine.specs.State.{Words, put_claim}
-use Rattle.list_machine.specs.Facts.{IsAt, left_in}
+use Rattle.list_machine.specs.Grants.{granted_in as left_in}
+use Rattle.list_machine.specs.Facts.{IsAt}
 use Rattle.list_machine.specs.Layouts.{words_of}
 use Rattle.list_machine.specs.Machine.{claims}
 use Rattle.list_machine.specs.Steps.{after_claim, KnowsChunk}

@@ -5,7 +5,8 @@ use mathlib.Core.List.{map-append}
 use lib.ListN.{get_elem?}
 use lib.Seq.{map-set}
 use Rattle.atomic_table.specs.Table.{Splits, Joins}
-use Rattle.list_machine.specs.Facts.{IsAt, HasChunk, left_in}
+use Rattle.list_machine.specs.Grants.{granted_in as left_in}
+use Rattle.list_machine.specs.Facts.{IsAt, HasChunk}
 use Rattle.list_machine.specs.Layouts.{words_of}
 use Rattle.list_machine.specs.Machine.{state, splits, joins, none}
 use Rattle.list_machine.specs.Steps.{with_grant, leaves_after_grants, newcomer, nobody, IsGrantable}

@@ -1,7 +1,8 @@
 -- What the worked lists of the tests may do.
 use Rattle.std.proofs.Common.{◌≡◌, ℕ, zero, suc, ◌+◌, ◌*◌, ◌<◌, ◌≤◌, ◌/◌, ◌%◌, inl, List, [], ◌∷◌, length, get_or, set, sym, refl, ap, subst, arith}
 use Rattle.std.proofs.lemmas.Bool.Decides.{nat_tests}
-use Rattle.list_machine.specs.Facts.{IsAt, left_in}
+use Rattle.list_machine.specs.Grants.{granted_in as left_in}
+use Rattle.list_machine.specs.Facts.{IsAt}
 use Rattle.list_machine.specs.Steps.{opening_leaf, with_stage, with_claimed, with_grant, IsGrantable}
 use Rattle.list_machine.specs.declared.views.Grant.{Grant}
 use Rattle.list_machine.specs.declared.views.Stage.{Stage}

@@ -1,7 +1,7 @@
 //! The steps of guests: a filer claims, walks links and files, and a reader reads slots.
 ghost use Rattle.std.specs.Prelude.{◌≡◌, ℕ, ◌<◌, ◌≤◌, ◌%◌, Some};
 ghost use Rattle.list_machine.specs.Words.{decode};
-ghost use Rattle.list_machine.specs.Facts.{left_in};
+ghost use Rattle.list_machine.specs.Grants.{granted_in as left_in};
 ghost use Rattle.list_machine.specs.declared.views.Unfiled.TheVariants.{Nothing};
 ghost use Rattle.list_table.specs.GuestMoves.{IsAfterClaim, MayFile, after_file, MayRead, after_read, IsSlotWord};
 ghost use Rattle.list_table.specs.OwnerMoves.{last_link};

@@ -1,5 +1,6 @@
 ghost use Rattle.std.specs.Prelude.{◌≡◌, ◌<◌, true, [], ◌∷◌, IfOk, IfSome};
-ghost use Rattle.list_machine.specs.Facts.{IsAt, left_in};
+ghost use Rattle.list_machine.specs.Grants.{granted_in as left_in};
+ghost use Rattle.list_machine.specs.Facts.{IsAt};
 ghost use Rattle.list_machine.specs.Steps.{IsGrantable, newcomer};
 ghost use Rattle.list_machine.specs.declared.views.LinkWord.TheVariants.{OfList};
 ghost use Rattle.list_machine.specs.declared.views.Stage.TheVariants.{Open};

@@ -4,7 +4,7 @@ use Rattle.std.specs.Prelude.{All, AllPairs}
 use Rattle.std.proofs.lemmas.List.{get_or_default, length-set}
 use Rattle.std.proofs.lemmas.List.Sums.{sum_by-cons}
 use Rattle.list_machine.specs.declared.views.Grant.{Grant}
-use Rattle.list_words.specs.Filing.{granted_in_all}
+use Rattle.list_machine.specs.Grants.{granted_in_all}
 use Rattle.list_words.specs.Plain.{list_in}
 use Rattle.list_words.specs.PlainGrants.{MayGrant, grant_lists}
 use Rattle.list_words.specs.PlainRows.{PlainList, granted_list}

@@ -4,7 +4,8 @@ use Rattle.std.proofs.lemmas.Bool.Decides.{nat_tests}
 use Rattle.std.proofs.lemmas.List.Sums.{sum_by-cons}
 use Rattle.list_machine.specs.declared.views.Grant.{Grant}
 use Rattle.list_words.specs.declared.leaf_lists.Answer.{Answer}
-use Rattle.list_words.specs.Filing.{granted_in, granted_in_all, left_after, use_grant}
+use Rattle.list_machine.specs.Grants.{granted_in, granted_in_all, use_grant}
+use Rattle.list_words.specs.Filing.{left_after}
 
 -- one more answer uses one more grant
 pub left_after-push : (gs : List Grant) (answers : List Answer) (a : Answer) → left_after gs (answers ++ a ∷ []) ≡ use_grant a.list (left_after gs answers)
@@ -36,6 +37,6 @@ granted_in_all-use_grant list (g ∷ gs) some = go (nat_eq g.list list && nat_le
         omega (arith, all)
     go false there rec =
         let same : granted_in_all (g ∷ use_grant list gs) ≡ g.n + granted_in_all (use_grant list gs) = sum_by-cons (λ (h : Grant). h.n) g (use_grant list gs) in
-        let parts : granted_in list (g ∷ gs) ≡ cond (nat_eq g.list list) g.n 0 + granted_in list gs = sum_by-cons (λ (h : Grant). cond (nat_eq h.list list) h.n 0) g gs in
+        let parts : granted_in list (g ∷ gs) ≡ cond (nat_eq g.list list) g.n 0 + granted_in list gs = refl in
         let rest : 0 < granted_in list gs = rest_left (nat_eq g.list list) g.n (granted_in list gs) there (omega (arith, parts)) in
         omega (arith, all, rec rest)

@@ -1,5 +1,6 @@
 -- What a filer is: who gave it, the slots it may still claim, and what its filings answered.
-use Rattle.std.specs.Prelude.{ℕ, ◌-◌, ◌<◌, List, [], ◌∷◌, ◌++◌, sum_by, ◌==◌, ◌&&◌, nat_le, if◌then◌else◌}
+use Rattle.std.specs.Prelude.{ℕ, ◌<◌, List, [], ◌∷◌, ◌++◌}
+use Rattle.list_machine.specs.Grants.{granted_in, use_grant}
 use Rattle.list_machine.specs.declared.views.Grant.{Grant}
 use Rattle.list_words.specs.declared.leaf_lists.Answer.{Answer}
 use Rattle.list_words.specs.declared.leaf_lists.Filed.{Filed}
@@ -10,19 +11,6 @@ pub record Filing : Type 0 where
   pub birth : ℕ
   pub left : List Grant
   pub answers : List Answer
-
--- how many slots grants give in all
-abbrev pub granted_in_all : List Grant → ℕ
-granted_in_all gs = sum_by (λ (g : Grant). g.n) gs
-
--- how many slots of one list they give
-abbrev pub granted_in : ℕ → List Grant → ℕ
-granted_in list gs = sum_by (λ (g : Grant). if g.list == list then g.n else 0) gs
-
--- one slot of a list is used up
-abbrev pub use_grant : ℕ → List Grant → List Grant
-use_grant list [] = []
-use_grant list (g ∷ gs) = if g.list == list && nat_le 1 g.n then record { list = g.list; n = g.n - 1 } ∷ gs else g ∷ use_grant list gs
 
 -- there is a slot of the list that the filer may claim
 abbrev pub HasGrant : Filing → ℕ → Type 0

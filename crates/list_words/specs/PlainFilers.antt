@@ -1,7 +1,8 @@
 -- A filer of lists over vectors.
 use Rattle.std.specs.Prelude.{◌+◌, ◌≤◌, [], vec_len}
 use Rattle.std.specs.Vec.{vec_capacity}
-use Rattle.list_words.specs.Filing.{Filing, granted_in_all, left_after}
+use Rattle.list_machine.specs.Grants.{granted_in_all}
+use Rattle.list_words.specs.Filing.{Filing, left_after}
 use Rattle.list_words.specs.declared.plain_filer.PlainFiler.TheInside.{Inside}
 
 -- it keeps the grants as they were given, and its answers

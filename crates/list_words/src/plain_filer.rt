@@ -1,6 +1,7 @@
 ghost use Rattle.std.specs.Prelude.{◌≡◌, ◌≤◌, []};
 ghost use Rattle.std.specs.Vec.{vec_capacity};
-ghost use Rattle.list_words.specs.Filing.{HasGrant, answered, granted_in_all};
+ghost use Rattle.list_machine.specs.Grants.{granted_in_all};
+ghost use Rattle.list_words.specs.Filing.{HasGrant, answered};
 
 use crate::within::push_within;
 use crate::{Answer, Filed, Filings, Grant};

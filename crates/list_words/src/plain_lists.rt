@@ -1,7 +1,8 @@
 ghost use Rattle.std.specs.Prelude.{◌≡◌, ◌≢◌, ℕ, suc, ◌+◌, ◌-◌, ◌*◌, ◌/◌, ◌%◌, ◌^◌, ◌<◌, ◌≤◌, ◌↔◌, Bool, if◌then◌else◌, All, AllPairs, replicate, List, [], ◌++◌, Option, Some, length, slice_get, Contains, IfOk, OnOk, OnErr, IsTrue, vec_len};
 ghost use Rattle.list_machine.specs.Words.{decode};
 ghost use Rattle.list_machine.specs.declared.views.Grant.{Grant};
-ghost use Rattle.list_words.specs.Filing.{HasGrant, answered, granted_in_all};
+ghost use Rattle.list_machine.specs.Grants.{granted_in_all};
+ghost use Rattle.list_words.specs.Filing.{HasGrant, answered};
 ghost use Rattle.list_words.specs.Plain.{Bears, BearsOut, Knows, SameFiled, chunk_at, fresh_plain, list_in, next_cleared, next_list, seat_of, slot_word, store_of, with_list};
 ghost use Rattle.list_words.specs.PlainRows.{filed_list, items_of, no_list};
 ghost use Rattle.list_words.specs.PlainGrants.{MayGrant, grant_lists};

@@ -8,7 +8,7 @@ use Rattle.std.proofs.lemmas.List.{get_or-set_same}
 use Rattle.std.proofs.lemmas.List.FromFn.{get_or-map-range_with_len, length-map-range_with_len}
 use Rattle.std.proofs.lemmas.List.Sums.{sum_by-cons}
 use Rattle.list_machine.specs.declared.views.Grant.{Grant}
-use Rattle.list_words.specs.Filing.{granted_in, granted_in_all}
+use Rattle.list_machine.specs.Grants.{granted_in, granted_in_all}
 use Rattle.list_words.specs.Store.{IsOpen, MayAdmit, Row, Store, admitted, counted, grant_rows, more_granted, no_row, row, row_in, with_filer_room}
 use Rattle.list_words.proofs.RowLaws.{row-grant_rows}
 use Rattle.chunk_lists.proofs.Knowing.{grant_rows_long}
@@ -33,7 +33,7 @@ evens_in_all places a (suc n) =
 evens_before : (l places a n : ℕ) → l < a → granted_in l (evens places a n) ≡ 0
 evens_before l places a zero lt = refl
 evens_before l places a (suc n) lt =
-    let head = sum_by-cons (one_in l) (grant_of places a) (evens places (a + 1) n) in
+    let head : granted_in l (evens places a (suc n)) ≡ one_in l (grant_of places a) + granted_in l (evens places (a + 1) n) = refl in
     let none : one_in l (grant_of places a) ≡ 0 = ap (λ (b : Bool). cond b places 0) (ne_eqb a l (λ e. omega arith)) in
     let rest = evens_before l places (a + 1) n (omega arith) in
     omega (arith, head, none, rest)
@@ -41,7 +41,7 @@ evens_before l places a (suc n) lt =
 evens_of : (l places a n : ℕ) → a ≤ l → l < a + n → granted_in l (evens places a n) ≡ places
 evens_of l places a zero from low = absurd (omega arith)
 evens_of l places a (suc n) from low =
-    let head = sum_by-cons (one_in l) (grant_of places a) (evens places (a + 1) n) in
+    let head : granted_in l (evens places a (suc n)) ≡ one_in l (grant_of places a) + granted_in l (evens places (a + 1) n) = refl in
     dite (ℕ_discrete a l)
     (λ e.
     let all : one_in l (grant_of places a) ≡ places = ap (λ (b : Bool). cond b places 0) (eq-eqb a l e) in
@@ -81,7 +81,7 @@ grants_add [] rows l low = omega arith
 grants_add (g ∷ gs) rows l low =
     let more : Row = more_granted (row_in rows g.list) g.n in
     let rest = grants_add gs (set rows g.list more) l (subst (λ n. l < n) (sym (length-set rows g.list more)) low) in
-    let head = sum_by-cons (one_in l) g gs in
+    let head : granted_in l (g ∷ gs) ≡ one_in l g + granted_in l gs = refl in
     dite (ℕ_discrete g.list l)
     (λ e.
     let all : one_in l g ≡ g.n = ap (λ (b : Bool). cond b g.n 0) (eq-eqb g.list l e) in

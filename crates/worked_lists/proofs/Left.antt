@@ -5,7 +5,7 @@ use native.Mathlib.Decide.{ℕ_discrete}
 use Rattle.std.proofs.lemmas.List.{get_or-replicate, length-replicate}
 use Rattle.std.proofs.lemmas.Option.{get_or_from_slice_get, slice_get_within, slice_get-get_or}
 use Rattle.list_machine.specs.declared.views.Grant.{Grant}
-use Rattle.list_words.specs.Filing.{granted_in, use_grant}
+use Rattle.list_machine.specs.Grants.{granted_in, use_grant}
 use Rattle.list_words.proofs.Places.{slice_get-set_same, slice_get-set_other}
 use Rattle.list_filers.proofs.Worked.{used_more}
 use Rattle.worked_lists.specs.Layouts.{even_grants}

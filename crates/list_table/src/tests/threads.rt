@@ -1,6 +1,6 @@
 //! Two filers in two threads.
 ghost use Rattle.std.specs.Prelude.{◌≡◌, ◌<◌, true};
-ghost use Rattle.list_machine.specs.Facts.{left_in};
+ghost use Rattle.list_machine.specs.Grants.{granted_in as left_in};
 ghost use Rattle.list_machine.specs.declared.views.LinkWord.TheVariants.{OfList};
 ghost use Rattle.list_machine.specs.declared.views.Unfiled.TheVariants.{Nothing};
 ghost use Rattle.list_table.specs.Ledgers.{opening_ledger};

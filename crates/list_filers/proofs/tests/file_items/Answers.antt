@@ -1,6 +1,6 @@
 use Rattle.std.proofs.Common.{◌<◌, ◌+◌, ap, ◌∙◌, arith, cond, nat_eq}
 use Rattle.std.proofs.lemmas.Bool.Decides.{nat_tests}
-use Rattle.list_words.specs.Filing.{granted_in}
+use Rattle.list_machine.specs.Grants.{granted_in}
 use Rattle.list_filers.proofs.Worked.{used_more}
 use Rattle.list_filers.proofs.tests.file_items.Goals as goal
 

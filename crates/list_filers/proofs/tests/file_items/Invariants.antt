@@ -1,5 +1,5 @@
 use Rattle.std.proofs.Common.{◌≡◌, ℕ, ◌+◌, cond, nat_eq}
-use Rattle.list_words.specs.Filing.{granted_in}
+use Rattle.list_machine.specs.Grants.{granted_in}
 use Rattle.list_filers.proofs.tests.file_items.Given as goal
 
 abbrev pub invariant-loop-item : goal.invariant-loop-item

@@ -1,5 +1,5 @@
 use Rattle.std.proofs.Common.{◌+◌, ◌<◌, List, sym, subst, arith}
-use Rattle.list_words.specs.Filing.{granted_in_all}
+use Rattle.list_machine.specs.Grants.{granted_in_all}
 use Rattle.list_book.specs.Books.{BookRow, BookValue}
 use Rattle.list_book.specs.BookKept.{IsSound}
 use Rattle.list_book.proofs.SoundLaws.{sound-grants}

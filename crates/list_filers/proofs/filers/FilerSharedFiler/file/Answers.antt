@@ -1,6 +1,7 @@
 use Rattle.std.proofs.Common.{◌≡◌, ◌<◌, ◌+◌, List, length, sym, ap, ◌∙◌, subst, arith}
 use Rattle.std.proofs.lemmas.List.{length_push}
-use Rattle.list_words.specs.Filing.{HasGrant, answer, answered, granted_in_all}
+use Rattle.list_machine.specs.Grants.{granted_in_all}
+use Rattle.list_words.specs.Filing.{HasGrant, answer, answered}
 use Rattle.list_words.specs.declared.leaf_lists.Answer.{Answer}
 use Rattle.list_filers.specs.Filers.{shared_name, AreShown}
 use Rattle.list_filers.proofs.Uses.{left_is, use_is, one_less}

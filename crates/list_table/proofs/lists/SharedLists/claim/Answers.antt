@@ -1,5 +1,5 @@
 use Rattle.std.proofs.Common.{◌≡◌, ◌+◌, ◌%◌, ◌<◌, sym, refl, ap, ◌∙◌, subst, arith}
-use Rattle.list_machine.specs.Facts.{left_in}
+use Rattle.list_machine.specs.Grants.{granted_in as left_in}
 use Rattle.list_machine.specs.declared.views.Unfiled.TheVariants.{Nothing}
 use Rattle.list_table.proofs.Claims.{ClaimTold, claim_may}
 use Rattle.list_table.specs.Ruled.{guest_of}

@@ -1,7 +1,8 @@
 use Rattle.std.proofs.Common.{◌≡◌, ◌<◌, List, [], ◌∷◌, ◌++◌, ap, sym, subst, ◌∙◌, arith}
 use Rattle.list_machine.specs.declared.views.Grant.{Grant}
 use Rattle.list_words.specs.declared.leaf_lists.Answer.{Answer}
-use Rattle.list_words.specs.Filing.{Filing, HasGrant, answer, answered, granted_in, granted_in_all, left_after, use_grant}
+use Rattle.list_machine.specs.Grants.{granted_in, granted_in_all, use_grant}
+use Rattle.list_words.specs.Filing.{Filing, HasGrant, answer, answered, left_after}
 use Rattle.list_words.proofs.Grants.{granted_in_all-use_grant, left_after-push}
 use Rattle.list_words.proofs.plain_filer.PlainFiler.record.Goals as goal
 

@@ -1,6 +1,6 @@
 use Rattle.std.proofs.Common.{◌≡◌, ℕ, ◌+◌, ◌<◌, List, length, map, set, get_or, ap, sym, subst, ◌∙◌, arith}
 use Rattle.std.proofs.lemmas.Grind.{get_or_default_zero}
-use Rattle.list_words.specs.Filing.{granted_in_all}
+use Rattle.list_machine.specs.Grants.{granted_in_all}
 use Rattle.list_words.specs.Store.{Store, Row, admitted, counted}
 use Rattle.list_words.specs.PlainRows.{PlainList, row_of}
 use Rattle.list_words.specs.PlainGrants.{grant_lists}

@@ -1,0 +1,10 @@
+-- The rule says which slots are marked.
+use Rattle.list_machine.proofs.Sweeps.{is_marked, is_unmarked, blank_is_ahead}
+use Rattle.list_machine.proofs.sweep_laws.first_places_are_marked.Goals as goal
+
+pub returns : goal.returns
+returns c = record {
+  marked = λ s l c k p f m r y a sound leaf shut. is_marked s sound l p f m a leaf shut y r c k;
+  unmarked = λ s l c k p f m r y a sound leaf shut. is_unmarked s sound l p f m a leaf shut y r c k;
+  blank = λ s l c k p f m r y a sound leaf shut. blank_is_ahead s sound l p f m a leaf shut y r c k;
+}

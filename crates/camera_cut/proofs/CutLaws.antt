@@ -1,5 +1,5 @@
 -- The cut of an outline: what a walk over the outline keeps is the cut, and it leads to each leaf once.
-use Rattle.std.proofs.Common.{◌≡◌, ℕ, zero, suc, ◌+◌, ◌-◌, ◌<◌, ◌≤◌, Bool, true, false, not, ◌&&◌, ◌||◌, cond, List, [], ◌∷◌, ◌++◌, map, length, count_by, Option, Some, None, inl, inr, refl, ap, ◌∙◌, sym, subst, arith, append_assoc}
+use Rattle.std.proofs.Common.{◌≡◌, ℕ, zero, suc, ◌+◌, ◌-◌, ◌<◌, ◌≤◌, Bool, true, false, not, ◌&&◌, ◌||◌, cond, List, [], ◌∷◌, ◌++◌, map, length, count_by, Option, Some, None, inl, inr, refl, ap, ◌∙◌, sym, subst, arith, append_assoc, pos}
 use Rattle.std.specs.List.{AllByRecursion, filter, list_any}
 use Rattle.std.proofs.lemmas.List.Sums.{sum_by-cons}
 use Rattle.std.proofs.lemmas.Bool.{and_parts, cases_lt, le-leb, lt-leb, le-ltb, lt-ltb}
@@ -8,16 +8,15 @@ use Rattle.std.proofs.lemmas.List.Elements.{filter-append, All-from_recursion}
 use Rattle.std.proofs.lemmas.List.Folds.{list_any-append}
 use Rattle.cube_math.specs.Points.{PointValue}
 use Rattle.cube_math.specs.Cubes.{CubeValue, child}
-use Rattle.picture_model.specs.Cameras.{CameraValue, refines}
+use Rattle.picture_model.specs.Cameras.{CameraValue, Triple, refines}
 use Rattle.octree_model.specs.Numbers.{up_to}
 use Rattle.octree_model.specs.Voxels.{voxels}
-use Rattle.octree_model.specs.Octree.{inside, octree_at}
+use Rattle.octree_model.specs.Octree.{inside, octree, octree_at}
 use Rattle.picture_model.specs.Cuts.{begins, is_above, is_before, in_path_order, opens, hides, in_cut, cut}
-use Rattle.octree_model.specs.Outlines.{OutlineAt, children_outline, tree_outline, node_outline, outline, outline_at}
+use Rattle.octree_model.specs.Outlines.{OutlineAt, children_outline, outline, outline_at}
+pub use Rattle.octree_model.proofs.OutlineLaws.{leaf_outline, inner_outline, outline_at-Leaf, outline_at-Inner}
 use Rattle.octree_model.specs.declared.tree.Tree.{Tree}
-use Rattle.octree_model.specs.declared.tree.Tree.TheOpen.{Tree-F}
-use Rattle.octree_model.specs.declared.tree.Tree.TheFolds.{fold-roll-Tree, fold-roll-InnerNode}
-use Rattle.octree_model.specs.declared.tree.Tree.TheVariants.{Leaf, Inner, rolls-Leaf, rolls-Inner}
+use Rattle.octree_model.specs.declared.tree.Tree.TheVariants.{Leaf, Inner}
 use Rattle.octree_model.specs.declared.tree.InnerNode.{InnerNode}
 use Rattle.octree_model.specs.declared.outline.OutlineNode.{OutlineNode}
 use Rattle.camera_cut.specs.Walks.{is_longer}
@@ -271,12 +270,6 @@ open_cut c r ch shown opened h = record {
 }
 
 -- the two kinds of outlines
-abbrev pub leaf_outline : OutlineAt
-leaf_outline path cube = record { path = path; cube = cube; inner = false } ∷ []
-
-abbrev pub inner_outline : List OutlineAt → OutlineAt
-inner_outline fs path cube = record { path = path; cube = cube; inner = true } ∷ children_outline path cube 0 fs
-
 pub leaf_part : (c : CameraValue) → Part c leaf_outline
 leaf_part c = record {
   starts = λ path cube. (begins_self path, tt);
@@ -313,14 +306,6 @@ inner_part c fs h = record {
       inner_cut c r (children_outline path cube 0 fs) hidden (opens c r) refl (none r (begins_self path)) (children_beyond c fs h path cube 0) (inner_starts c fs h path cube)
       (children_cut c fs h path cube 0 hidden (λ n b. none n (beyond-begins path 0 n.path b)));
 }
-
--- the outline of a leaf, and of an inner node
-pub outline_at-Leaf : (ps : List PointValue) → outline_at (Leaf ps) ≡ leaf_outline
-outline_at-Leaf ps = ap outline_at (sym (rolls-Leaf ps)) ∙ fold-roll-Tree OutlineAt OutlineAt tree_outline node_outline (Tree-F.Leaf ps)
-
-pub outline_at-Inner : (n : InnerNode) → outline_at (Inner n) ≡ inner_outline (map outline_at n.trees)
-outline_at-Inner n = ap outline_at (sym (rolls-Inner n)) ∙ fold-roll-Tree OutlineAt OutlineAt tree_outline node_outline (Tree-F.Inner n)
-    ∙ fold-roll-InnerNode OutlineAt OutlineAt tree_outline node_outline record { count = n.count; voxels = n.voxels; trees = n.trees }
 
 tree_parts : (c : CameraValue) (T : ℕ → Tree) → ((g : ℕ) → Part c (outline_at (T g))) → (gs : List ℕ) → AllByRecursion (Part c) (map outline_at (map T gs))
 tree_parts c T h [] = tt
@@ -363,3 +348,14 @@ walked_cut c nodes o =
 -- and the cut leads to each leaf once
 pub leads_to_leaves : (c : CameraValue) (nodes : List OutlineNode) → IsOutline nodes → LeadToEachLeaf (cut c nodes) nodes
 leads_to_leaves c nodes o = All-from_recursion (LeadsTo (cut c nodes)) nodes (outline_cut c nodes o).counted
+
+-- the outline of an octree stands in path order
+pub outline_ordered : (leaf : ℕ) (cube : CubeValue) (ps : List PointValue) → Ordered (outline (octree leaf cube ps) cube)
+outline_ordered leaf cube ps = (tree_part some_camera leaf (cube.bits - 7) cube ps).ordered [] cube
+  where
+    origin : Triple
+    origin = (pos 0, pos 0, pos 0)
+
+    -- the order is the same by whatever camera
+    some_camera : CameraValue
+    some_camera = record { eye = origin; right = origin; down = origin; forward = origin; focal = 1; near = 1; width = 1; height = 1; threshold = 1; dot = 1 }

@@ -6,4 +6,5 @@ pub mod Lists
 pub mod OrderLaws
 pub mod PathLaws
 pub mod Ranges
+pub mod ShowingLaws
 pub mod Sizes

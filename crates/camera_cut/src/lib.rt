@@ -5,6 +5,7 @@
 mod camera;
 mod cut;
 mod item;
+mod laws;
 mod numbers;
 #[cfg(test)]
 mod tests;
@@ -12,4 +13,5 @@ mod tests;
 pub use camera::Camera;
 pub use cut::{Cut, cut_of};
 pub use item::Item;
+pub use laws::{cut_has_the_items, outline_is_in_path_order};
 pub use numbers::{CameraFault, CameraField, CameraNumbers};

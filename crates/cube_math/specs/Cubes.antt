@@ -1,5 +1,5 @@
 -- Cubes of space: which points they contain, their eight octants, and their 128 * 128 * 128 cells.
-use Rattle.std.specs.Prelude.{ℕ, Bool, ◌&&◌, ℤ, pos, int_le, int_lt, ◌+ℤ◌, ◌-ℤ◌, unsigned_abs, ◌≤ℤ◌, ◌≤◌, ◌^◌, ◌+◌, ◌-◌, ◌*◌, ◌/◌, ◌%◌}
+use Rattle.std.specs.Prelude.{ℕ, List, [], ◌∷◌, Bool, ◌&&◌, ℤ, pos, int_le, int_lt, ◌+ℤ◌, ◌-ℤ◌, unsigned_abs, ◌≤ℤ◌, ◌≤◌, ◌^◌, ◌+◌, ◌-◌, ◌*◌, ◌/◌, ◌%◌}
 use Rattle.cube_math.specs.Points.{PointValue}
 
 -- a cube as contracts see it: its origin, and the bits of its side 2 ^ bits
@@ -45,6 +45,11 @@ child c g = record {
   oz = c.oz +ℤ pos (g / 4 * 2 ^ (c.bits - 1));
   bits = c.bits - 1;
 }
+
+-- the cube to which the octants of a path lead from a cube
+abbrev pub cube_at : CubeValue → List ℕ → CubeValue
+cube_at c [] = c
+cube_at c (g ∷ path) = cube_at (child c g) path
 
 -- the point in the middle of a cube
 abbrev pub centre : CubeValue → ℤ × ℤ × ℤ

@@ -1,6 +1,7 @@
-ghost use Rattle.std.specs.Prelude.{◌≡◌, ℕ, ◌+◌, ◌-◌, ◌*◌, ◌^◌, ◌<◌, ◌≤◌, ◌↔◌, IsTrue, IsSome, IfSome, ℤ, pos, ◌+ℤ◌, ◌≤ℤ◌};
-ghost use Rattle.cube_math.specs.Cubes.{FitsSpace, on_axis, contains, child, octant, cell, centre, far, distance, octant_bit, cell_index, from_middle, square};
+ghost use Rattle.std.specs.Prelude.{◌≡◌, ℕ, ◌+◌, ◌-◌, ◌*◌, ◌^◌, ◌<◌, ◌≤◌, ◌↔◌, length, IsTrue, IsSome, IfSome, ℤ, pos, ◌+ℤ◌, ◌≤ℤ◌};
+ghost use Rattle.cube_math.specs.Cubes.{FitsSpace, on_axis, contains, child, cube_at, octant, cell, centre, far, distance, octant_bit, cell_index, from_middle, square};
 
+use crate::path::Path;
 use crate::point::Point;
 use std::marker::Model;
 
@@ -78,6 +79,18 @@ impl Cube {
             oz: half_origin(self.oz, self.bits, octant / 4),
             bits: self.bits - 1,
         }
+    }
+
+    /// The cube of the node with this path below a node with this cube.
+    pub fn at(&self, path: &Path) -> Cube
+        requires { length path.now + 7 ≤ self.now.bits }
+        ensures { result ≡ cube_at self.now path.now }
+    {
+        let mut cube = *self;
+        for step in 0..path.len() {
+            cube = cube.child(path.octant(step));
+        }
+        cube
     }
 
     /// The point in the middle: the origin plus half the side on each axis.

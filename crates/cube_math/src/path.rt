@@ -1,9 +1,14 @@
-ghost use Rattle.std.specs.Prelude.{◌≡◌, ◌<◌, ◌≤◌, ◌++◌, ◌∷◌, [], length, slice_get, Some};
+ghost use Rattle.std.specs.Prelude.{◌≡◌, ◌<◌, ◌≤◌, ◌++◌, ◌∷◌, ◌↔◌, [], length, slice_get, Some, refl, nat_eq, IsTrue};
+ghost use Rattle.std.specs.Ordering.{nat_cmp};
+ghost use Rattle.std.specs.Cmp.{partial_equiv_from_equiv};
+ghost use Rattle.std.specs.Cmp.Lexicographic.{pointwise, slice_cmp, nat_list_eq_equiv, nat_list_cmp_total, texts_ties, texts_po};
 
+use std::cmp::Ordering;
 use std::marker::Model;
 
-/// The octants from the root to a node: at most 24, each 0 to 7. Contracts see the list of them.
-#[derive(Clone, Copy, Debug, PartialEq, Eq, PartialOrd, Ord)]
+/// The octants from the root to a node: at most 24, each 0 to 7. Contracts see the list of them. Paths are
+/// ordered as lists: by their first octants that differ, and a path before those that go on from it.
+#[derive(Clone, Copy, Debug)]
 pub struct Path {
     octants: [u8; 24],
     len: u8,
@@ -26,6 +31,48 @@ impl Model for Path {
     ghost inverse = { path_of };
 
     ghost inverse_ok = { path_back };
+}
+
+impl PartialEq for Path {
+    ghost eq = { pointwise nat_eq };
+
+    ghost laws = { partial_equiv_from_equiv nat_list_eq_equiv };
+
+    /// Whether both have the same octants.
+    fn eq(&self, other: &Path) -> bool
+        ensures value { result ≡ pointwise nat_eq self.now other.now }
+        ensures same { IsTrue result ↔ (self.now ≡ other.now) }
+    {
+        self.octants() == other.octants()
+    }
+}
+
+impl Eq for Path {
+    ghost laws = { nat_list_eq_equiv };
+}
+
+impl PartialOrd for Path {
+    ghost partial_cmp = { λ a b. Some (slice_cmp nat_cmp a b) };
+
+    ghost laws = { texts_po };
+
+    fn partial_cmp(&self, other: &Path) -> Option<Ordering> {
+        Some(self.cmp(other))
+    }
+}
+
+impl Ord for Path {
+    ghost cmp = { slice_cmp nat_cmp };
+
+    ghost total = { nat_list_cmp_total };
+
+    ghost matches_partial_cmp = { λ a b. refl };
+
+    ghost matches_eq = { texts_ties };
+
+    fn cmp(&self, other: &Path) -> Ordering {
+        self.octants().cmp(other.octants())
+    }
 }
 
 impl Path {
@@ -68,5 +115,12 @@ impl Path {
             octants,
             len: self.len + 1,
         }
+    }
+
+    /// The octants, in order.
+    fn octants(&self) -> &[u8]
+        ensures { result.now ≡ self.now }
+    {
+        &self.octants[..usize::from(self.len)]
     }
 }

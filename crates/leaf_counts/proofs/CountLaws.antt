@@ -4,9 +4,9 @@ use Rattle.std.proofs.lemmas.Bool.{cases_lt, le-leb, lt-leb}
 use Rattle.std.proofs.lemmas.List.{map-append}
 use Rattle.cube_math.specs.Points.{PointValue}
 use Rattle.cube_math.specs.Cubes.{CubeValue, contains, child, octant}
-use Rattle.cube_math.proofs.Halves.{child_has}
 use Rattle.octree_model.specs.Numbers.{up_to}
 use Rattle.octree_model.specs.Octree.{inside, octree_at, octree}
+pub use Rattle.octree_model.proofs.OctreeLaws.{child_inside, same_below}
 use Rattle.octree_model.specs.declared.tree.Tree.TheOpen.{Tree-F}
 use Rattle.octree_model.specs.declared.tree.Tree.TheFolds.{fold-roll-Tree, fold-roll-InnerNode}
 use Rattle.octree_model.specs.declared.tree.Tree.TheVariants as tree
@@ -14,21 +14,6 @@ use Rattle.octree_model.specs.declared.tree.InnerNode.{InnerNode}
 use Rattle.leaf_counts.specs.declared.counts.Counts.{Counts, Leaf, Inner}
 use Rattle.leaf_counts.specs.Nodes.{counted, tree_counts, inner_counts}
 use Rattle.leaf_counts.proofs.NodeLaws.{no_leaf, same_leaf, same_inner}
-
--- ---- points of children
--- a child sees the points of its cube alone
-pub child_inside : (c : CubeValue) (g : ℕ) (ps : List PointValue) → 0 < c.bits → g < 8 → inside (child c g) (inside c ps) ≡ inside (child c g) ps
-child_inside c g [] s l = refl
-child_inside c g (p ∷ ps) s l = elim (contains c p) as (λ b. contains c p ≡ b → inside (child c g) (cond b (p ∷ inside c ps) (inside c ps)) ≡ inside (child c g) (p ∷ ps)) [
-  | true ↦ λ e. ap (λ (qs : List PointValue). cond (contains (child c g) p) (p ∷ qs) qs) (child_inside c g ps s l)
-  | false ↦ λ e.
-      let out : contains (child c g) p ≡ false = child_has c p g s l ∙ ap (λ b. b && nat_eq (octant c p) g) e in
-      child_inside c g ps s l ∙ sym (ap (λ b. cond b (p ∷ inside (child c g) ps) (inside (child c g) ps)) out)
-] refl
-
--- lists with the same points in a cube have the same ones in its children
-pub same_below : (c : CubeValue) (g : ℕ) (ps qs : List PointValue) → 0 < c.bits → g < 8 → inside c ps ≡ inside c qs → inside (child c g) ps ≡ inside (child c g) qs
-same_below c g ps qs s l e = sym (child_inside c g ps s l) ∙ ap (inside (child c g)) e ∙ child_inside c g qs s l
 
 pub map_same : {X : Type 0} (F G : ℕ → X) (n : ℕ) → ((g : ℕ) → g < n → F g ≡ G g) → map F (up_to n) ≡ map G (up_to n)
 map_same F G zero h = refl

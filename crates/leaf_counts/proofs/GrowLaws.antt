@@ -8,6 +8,7 @@ use Rattle.std.proofs.lemmas.Option.{slice_get_read, slice_get_within, get_or_fr
 use Rattle.std.proofs.Math.Seq.{drop-append_seam}
 use Rattle.cube_math.specs.Points.{PointValue}
 use Rattle.cube_math.specs.Cubes.{CubeValue, contains, child}
+use Rattle.cube_math.proofs.Ways.{cube_at-push}
 use Rattle.octree_model.specs.Bags.{IsSameBag}
 use Rattle.octree_model.specs.Numbers.{up_to}
 use Rattle.octree_model.specs.Octree.{inside, octree}
@@ -193,10 +194,6 @@ half_begins root points batch leaf path cube t part spills p n ts growths growin
       leaves = ap (λ (l : List (List ℕ)). p.leaves.items ++ map (λ steps. path ++ steps) l) (sym (new_leaves-Inner t _ _ _ inner));
       each = ap (λ (gs : List Growth). grown_each (map grown gs) []) none;
     }
-
-cube_at-push : (root : CubeValue) (path : List ℕ) (g : ℕ) → cube_at root (path ++ g ∷ []) ≡ child (cube_at root path) g
-cube_at-push root [] g = refl
-cube_at-push root (k ∷ path) g = cube_at-push (child root k) path g
 
 -- the child g meets the points and the batch as the node does
 pub child_growing : (root : CubeValue) (points batch : List PointValue) (leaf : ℕ) (path path' : List ℕ) (cube cube' : CubeValue) (t : Counts) (part part' : List PointValue) (spills : List Spill) (old now : Progress) (n : ℕ) (ts : List Counts) (growths : List Growth) (g : ℕ) (u : Counts)

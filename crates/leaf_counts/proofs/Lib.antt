@@ -3,8 +3,10 @@ pub mod CommitLaws
 pub mod CountLaws
 pub mod GrowLaws
 pub mod GrowthLaws
+pub mod LeafLaws
 pub mod NewLaws
 pub mod NodeLaws
+pub mod OutlineLaws
 pub mod OverfullLaws
 pub mod PathLaws
 pub mod PlanLaws

@@ -1,6 +1,5 @@
 -- What a leaf and an inner node are, and the nodes below them.
-use Rattle.std.proofs.lemmas.List.{drop_more}
-use Rattle.std.proofs.lemmas.Option.{slice_get_within, get_or_from_slice_get}
+pub use Rattle.cube_math.proofs.Ways.{next_of}
 use Rattle.std.proofs.Common.{◌≡◌, ℕ, ◌+◌, slice_get, drop, Some, ◌∷◌, List, map, sum, ap, ◌∙◌, sym}
 use Rattle.leaf_counts.specs.declared.counts.Counts.{Counts, out-Counts, out-roll-Counts}
 use Rattle.leaf_counts.specs.declared.counts.Counts.TheOpen.{Counts-F}
@@ -35,7 +34,3 @@ total-Leaf n = ap node_total (sym (rolls-Leaf n)) ∙ fold-roll-Counts ℕ layer
 
 pub total-Inner : (n : ℕ) (ts : List Counts) → node_total (Inner n ts) ≡ 1 + sum (map node_total ts)
 total-Inner n ts = ap node_total (sym (rolls-Inner n ts)) ∙ fold-roll-Counts ℕ layer_total (Counts-F.Inner n ts)
-
--- what comes next in a list
-pub next_of : {X : Type 0} (xs : List X) (i : ℕ) (x : X) → slice_get xs i ≡ Some x → drop i xs ≡ x ∷ drop (i + 1) xs
-next_of xs i x at = drop_more xs i x (slice_get_within xs i x at) ∙ ap (λ y. y ∷ drop (i + 1) xs) (get_or_from_slice_get xs i x x at)

@@ -1,6 +1,6 @@
 -- The nodes of an octree with their numbers of points: where each stands, and its role.
 use Rattle.std.specs.Prelude.{ℕ, ◌+◌, List, [], ◌∷◌, length, sum, Bool, true, false, Option, Some, None, slice_get, option_map, option_and_then, not}
-use Rattle.cube_math.specs.Cubes.{CubeValue, child}
+pub use Rattle.cube_math.specs.Cubes.{cube_at}
 use Rattle.octree_model.specs.declared.tree.Tree.{Tree}
 use Rattle.octree_model.specs.declared.tree.Tree.TheOpen.{Tree-F, InnerNode-F}
 use Rattle.octree_model.specs.declared.tree.Tree.TheFolds.{fold-Tree}
@@ -71,8 +71,3 @@ is_inner_at counts path = is_inner (node_at counts path)
 -- whether a leaf stands at the path
 abbrev pub is_leaf_at : Counts → List ℕ → Bool
 is_leaf_at counts path = is_leaf (node_at counts path)
-
--- the cube at a path that begins in this cube
-abbrev pub cube_at : CubeValue → List ℕ → CubeValue
-cube_at cube [] = cube
-cube_at cube (g ∷ path) = cube_at (child cube g) path

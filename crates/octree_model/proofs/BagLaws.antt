@@ -35,11 +35,11 @@ joined_append [] ys = refl
 joined_append (x ∷ xs) ys = ap (λ (l : List PointValue). x ++ l) (joined_append xs ys) ∙ sym (append_assoc x (joined xs) (joined ys))
 
 -- the sum of F at the numbers below n
-abbrev over : (ℕ → ℕ) → ℕ → ℕ
+abbrev pub over : (ℕ → ℕ) → ℕ → ℕ
 over F zero = 0
 over F (suc n) = over F n + F n
 
-over_same : (F G : ℕ → ℕ) (n : ℕ) → ((k : ℕ) → k < n → F k ≡ G k) → over F n ≡ over G n
+pub over_same : (F G : ℕ → ℕ) (n : ℕ) → ((k : ℕ) → k < n → F k ≡ G k) → over F n ≡ over G n
 over_same F G zero h = refl
 over_same F G (suc n) h =
     let rest : over F n ≡ over G n = over_same F G n (λ k l. h k (omega arith)) in
@@ -47,7 +47,7 @@ over_same F G (suc n) h =
     omega arith
 
 -- one more at one number
-over_one : (F : ℕ → ℕ) (o x n : ℕ) → over (λ k. F k + cond (nat_eq o k) x 0) n ≡ over F n + cond (nat_lt o n) x 0
+pub over_one : (F : ℕ → ℕ) (o x n : ℕ) → over (λ k. F k + cond (nat_eq o k) x 0) n ≡ over F n + cond (nat_lt o n) x 0
 over_one F o x zero = rw (le-ltb o 0 (omega arith)) refl
 over_one F o x (suc n) =
     let before : over (λ k. F k + cond (nat_eq o k) x 0) n ≡ over F n + cond (nat_lt o n) x 0 = over_one F o x n in

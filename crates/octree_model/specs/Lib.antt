@@ -1,6 +1,7 @@
 pub mod Bags
 pub mod Counts
 pub mod Facts
+pub mod Leaves
 pub mod Numbers
 pub mod Octree
 pub mod Outlines

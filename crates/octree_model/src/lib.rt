@@ -7,7 +7,9 @@ mod outline;
 mod tree;
 mod voxel;
 
-pub use laws::{leaves_keep_points, same_points_have_same_octree};
+pub use laws::{
+    each_point_has_one_leaf, leaves_keep_points, paths_lead_to_cubes, same_points_have_same_octree,
+};
 pub use outline::OutlineNode;
 pub use tree::{InnerNode, Points, Tree};
 pub use voxel::Voxel;

@@ -1,0 +1,8 @@
+use Rattle.octree_model.specs.Octree.{octree}
+use Rattle.octree_model.specs.Outlines.{outline}
+use Rattle.camera_cut.proofs.CutLaws.{outline_ordered}
+use Rattle.camera_cut.proofs.OrderLaws.{in_order}
+use Rattle.camera_cut.proofs.laws.outline_is_in_path_order.Goals as goal
+
+pub returns : goal.returns
+returns c = in_order (outline (octree c.args.leaf c.args.cube.now c.args.points.now) c.args.cube.now) (outline_ordered c.args.leaf c.args.cube.now c.args.points.now)

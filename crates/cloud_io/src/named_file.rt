@@ -8,11 +8,13 @@ pub struct NamedFile {
     pub bytes: Vec<u8>,
 }
 
-/// A file in memory that was opened: its index among the files, and the place in it.
+/// A file in memory that was opened: its index among the files, the place in it, and whether a read told
+/// its end.
 #[derive(Debug, Drop)]
 pub struct OpenFile {
     pub index: usize,
     pub place: usize,
+    pub ended: bool,
 }
 
 /// The index of the first file of the name.

@@ -1,7 +1,6 @@
 ghost use Rattle.std.specs.Prelude.{All};
 ghost use Rattle.cloud_io.specs.HeldFiles.{IsOpenIn};
 
-use crate::ends::tells_end;
 use crate::faults::OpenFault;
 use crate::named_file::{NamedFile, OpenFile, index_of};
 use std::alloc::Global;
@@ -62,8 +61,7 @@ impl HeldFiles {
         let (_, rest) = bytes.split_at(opened.place);
         let n = rest.len().min(buf.len());
         buf[..n].copy_from_slice(&rest[..n]);
-        opened.place += n;
-        opened.ended = opened.ended || tells_end(n, buf);
+        opened.read_on(n, buf);
         n
     }
 }

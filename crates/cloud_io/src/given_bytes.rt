@@ -25,6 +25,5 @@ impl GivenBytes {
     /// Notes the bytes of one more read.
     pub fn add(&mut self, _piece: &[u8])
         ensures { self.new.bytes ≡ self.old.bytes ++ _piece.now }
-    {
-    }
+    {}
 }

@@ -42,7 +42,11 @@ impl HeldFiles {
             return Err(OpenFault::NoFile);
         };
         let number = self.opened.len() as u64;
-        match self.opened.push(OpenFile { index, place: 0, ended: false }) {
+        match self.opened.push(OpenFile {
+            index,
+            place: 0,
+            ended: false,
+        }) {
             Ok(()) => Ok(number),
             Err(_) => Err(OpenFault::Memory),
         }

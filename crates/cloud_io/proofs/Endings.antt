@@ -2,7 +2,7 @@
 use Rattle.std.proofs.Common.{◌≡◌, ◌+◌, ◌≤◌, inl, ℕ, List, Option, Result, Ok, Err, ap, ◌∙◌, refl, arith}
 use Rattle.std.specs.Prelude.{◌≢◌, IsErrAnd}
 use Rattle.cloud_io.specs.Counts.{Rose, HasCause, HasCauses}
-use Rattle.cloud_io.specs.Files.{Folder, Opened, SameElsewhere, AgreesWith}
+use Rattle.cloud_io.specs.Files.{Folder, Opened, AgreesWith}
 use Rattle.cloud_io.specs.Whole.{read_fault, ReadsWhole, ReadsTo}
 use Rattle.cloud_io.specs.declared.faults.OpenFault.{OpenFault}
 use Rattle.cloud_io.specs.declared.faults.OpenFault.TheVariants.{NoFile as OpenNoFile, Failed as OpenFailed, Memory as OpenMemory}
@@ -20,10 +20,10 @@ told_unopened A files name most OpenNoFile h = h
 told_unopened A files name most OpenFailed h = tt
 told_unopened A files name most OpenMemory h = tt
 
-pub place_unopened : (A : Type 0) (old new : Opened) (name : List ℕ) (most : ℕ) (fault : OpenFault) → ((k : ℕ) → new k ≡ old k) → ReadsTo {A = A} old new name most (Err (read_fault fault))
-place_unopened A old new name most OpenNoFile same = same
-place_unopened A old new name most OpenFailed same = inl same
-place_unopened A old new name most OpenMemory same = (0, λ k other. same k)
+pub left_unopened : (A : Type 0) (files : Option Folder) (old new : Opened) (name : List ℕ) (most : ℕ) (fault : OpenFault) → new ≡ old → ReadsTo {A = A} files old new name most (Err (read_fault fault))
+left_unopened A files old new name most OpenNoFile same = same
+left_unopened A files old new name most OpenFailed same = inl same
+left_unopened A files old new name most OpenMemory same = inl same
 
 -- an answer that accounts for no count
 quiet : {T : Type 0} (faults faults' missing missing' : ℕ) (result : Result T ReadFault) → faults' ≡ faults → missing' ≡ missing → result ≢ Err Failed → result ≢ Err NoFile → HasCauses faults faults' missing missing' Failed NoFile result
@@ -83,7 +83,3 @@ causes_unopened T faults faults' missing missing' OpenMemory h = quiet_memory T 
 pub causes_failed : (T : Type 0) {E : Type 0} (faults mid faults' missing missing_mid missing' : ℕ) (failed : E) → mid ≡ faults → missing_mid ≡ missing → HasCause {T = ℕ} mid faults' (Err failed) → missing' ≡ missing_mid → HasCauses {T = T} faults faults' missing missing' Failed NoFile (Err Failed)
 causes_failed T faults mid faults' missing missing_mid missing' failed f m cause same =
     failed_once T faults faults' missing missing' (omega (arith, f, cause.later)) (omega (arith, f, cause.once)) (omega (arith, f, cause.failed)) (same ∙ m)
-
--- what two steps change lies in one file
-pub others_more : (file : ℕ) (old mid new : Opened) → SameElsewhere file old mid → SameElsewhere file mid new → SameElsewhere file old new
-others_more file old mid new p q k other = q k other ∙ p k other

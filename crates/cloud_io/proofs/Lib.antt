@@ -2,3 +2,4 @@ pub mod Endings
 pub mod OpenFiles
 pub mod Pieces
 pub mod Prefixes
+pub mod SystemReads

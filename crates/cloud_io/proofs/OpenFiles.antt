@@ -1,44 +1,19 @@
 -- Files in memory: which are found, and where those stand that were opened.
-use Rattle.std.proofs.Common.{◌≡◌, ℕ, suc, zero, ◌+◌, ◌-◌, ◌^◌, ◌<◌, ◌≤◌, min, List, ◌++◌, [], ◌∷◌, length, length-append, length-drop, get_or, set, take, drop, Option, Some, None, subst, sym, ap, ◌∙◌, refl, cond, arith, All, string_bytes, Bool, true, false}
-use Rattle.std.proofs.lemmas.List.{length-take-le, take_at}
-use Rattle.std.specs.Prelude.{◌≢◌, IsSome, is_some, Ok, slice_get, option_and_then, option_map, unwrap_or, if◌then◌else◌}
+use Rattle.std.proofs.Common.{◌≡◌, ℕ, suc, zero, ◌+◌, ◌-◌, ◌^◌, ◌<◌, ◌≤◌, min, List, ◌++◌, [], ◌∷◌, length, length-append, length-drop, map, get_or, set, take, drop, Option, Some, None, subst, sym, ap, ◌∙◌, refl, cond, arith, All, string_bytes, Bool, true, false, ◌||◌}
+use Rattle.std.proofs.lemmas.List.{length-map, length-take-le, map-append, map-set, take_at}
+use Rattle.std.specs.Prelude.{IsSome, is_some, Ok, slice_get, option_map, unwrap_or, if◌then◌else◌}
 use Rattle.std.specs.List.{position_or_len}
+use Rattle.std.proofs.Math.Seq.{take-add}
 use Rattle.std.proofs.lemmas.Bool.{ltb-false}
 use Rattle.std.proofs.lemmas.List.Folds.{find_at}
 use Rattle.std.proofs.lemmas.List.Elements.{All-push}
 use Rattle.std.proofs.lemmas.List.Quantifiers.{position-Some}
 use Rattle.std.proofs.lemmas.Slice.Eq.{bytes_eq-Decides}
-use Rattle.std.proofs.lemmas.Option.{slice_get_past, slice_get_read, slice_get-get_or}
-use Rattle.cloud_io.specs.Files.{Opens, MovesBy, GivesNext, IsNext}
-use Rattle.cloud_io.specs.HeldFiles.{has_name, first_named, folder_of, opened_of, IsOpenIn}
+use Rattle.std.proofs.lemmas.Option.{slice_get_past, slice_get_read, slice_get-get_or, slice_get-map}
+use Rattle.cloud_io.specs.Files.{OpenedFile, Opens, ReadsOn, GivesNext, IsNext, begun, read_on, tells_end}
+use Rattle.cloud_io.specs.HeldFiles.{has_name, first_named, folder_of, opened_file, opened_of, IsOpenIn}
 use Rattle.cloud_io.specs.declared.named_file.NamedFile.{NamedFile}
 use Rattle.cloud_io.specs.declared.named_file.OpenFile.{OpenFile}
-
--- the element behind the last
-slice_get_last : {X : Type 0} (xs : List X) (y : X) → slice_get (xs ++ y ∷ []) (length xs) ≡ Some y
-slice_get_last [] y = refl
-slice_get_last (x ∷ xs) y = slice_get_last xs y
-
--- the elements before it
-slice_get_before : {X : Type 0} (xs : List X) (y : X) (k : ℕ) → k ≢ length xs → slice_get (xs ++ y ∷ []) k ≡ slice_get xs k
-slice_get_before [] y zero ne = absurd (ne refl)
-slice_get_before [] y (suc k) ne = refl
-slice_get_before (x ∷ xs) y zero ne = refl
-slice_get_before (x ∷ xs) y (suc k) ne = slice_get_before xs y k (λ e. ne (ap suc e))
-
--- an element that was set
-slice_get_set : {X : Type 0} (xs : List X) (i : ℕ) (y : X) → i < length xs → slice_get (set xs i y) i ≡ Some y
-slice_get_set [] i y h = absurd (omega arith)
-slice_get_set (x ∷ xs) zero y h = refl
-slice_get_set (x ∷ xs) (suc i) y h = slice_get_set xs i y (omega arith)
-
--- the elements beside it
-slice_get_beside : {X : Type 0} (xs : List X) (i : ℕ) (y : X) (k : ℕ) → k ≢ i → slice_get (set xs i y) k ≡ slice_get xs k
-slice_get_beside [] i y k ne = refl
-slice_get_beside (x ∷ xs) zero y zero ne = absurd (ne refl)
-slice_get_beside (x ∷ xs) zero y (suc k) ne = refl
-slice_get_beside (x ∷ xs) (suc i) y zero ne = refl
-slice_get_beside (x ∷ xs) (suc i) y (suc k) ne = slice_get_beside xs i y k (λ e. ne (ap suc e))
 
 -- a file that is found has the name
 found_name : (files : List NamedFile) (name : List ℕ) (k : ℕ) (d : NamedFile) → first_named files name ≡ Some k → string_bytes (get_or files k d).name ≡ name
@@ -77,45 +52,40 @@ folder_some [] name k e = cc
 folder_some (f ∷ fs) name k e = ap is_some (folder_found (f ∷ fs) name k (get_or (f ∷ fs) k f) e (slice_get-get_or (f ∷ fs) k f (found_there (f ∷ fs) name k e)))
 
 -- a file that is found may be opened, at place 0
-pub open_found : (files : List NamedFile) (name : List ℕ) (k : ℕ) → first_named files name ≡ Some k → IsOpenIn files record { index = k; place = 0 }
+pub open_found : (files : List NamedFile) (name : List ℕ) (k : ℕ) → first_named files name ≡ Some k → IsOpenIn files record { index = k; place = 0; ended = false }
 open_found files name k e = record {
   there = found_there files name k e;
   first = λ d. ap (first_named files) (found_name files name k d e) ∙ e;
   within = λ d. omega arith;
 }
 
--- an opened file by its index and place
-opened_at : (files : List NamedFile) (opened : List OpenFile) (k : ℕ) (o : OpenFile) (f : NamedFile) → slice_get opened k ≡ Some o → slice_get files o.index ≡ Some f → opened_of files opened k ≡ Some (string_bytes f.name, o.place)
-unfolding opened_of
-opened_at files opened k o f e at =
-    ap (option_and_then (λ (o : OpenFile). option_map (λ (f : NamedFile). (string_bytes f.name, o.place)) (slice_get files o.index))) e ∙ ap (option_map (λ (f : NamedFile). (string_bytes f.name, o.place))) at
-
--- what stands in one place of two lists is opened as one file
-opened_same : (files : List NamedFile) (old new : List OpenFile) (k : ℕ) → slice_get new k ≡ slice_get old k → opened_of files new k ≡ opened_of files old k
-unfolding opened_of
-opened_same files old new k e = ap (option_and_then (λ (o : OpenFile). option_map (λ (f : NamedFile). (string_bytes f.name, o.place)) (slice_get files o.index))) e
+-- an opened file as contracts see it
+abbrev pub seen : List NamedFile → OpenFile → OpenedFile
+seen files o = opened_file o (slice_get files o.index)
 
 -- in no list nothing is opened
-pub opened_none : (files : List NamedFile) (k : ℕ) → opened_of files [] k ≡ None
+pub opened_none : (files : List NamedFile) → opened_of files [] ≡ []
 unfolding opened_of
-opened_none files k = refl
+opened_none files = refl
 
 -- a number of an opened file lies within the list
-pub opened_within : (files : List NamedFile) (opened : List OpenFile) (k : ℕ) → IsSome (opened_of files opened k) → k < length opened
+pub opened_within : (files : List NamedFile) (opened : List OpenFile) (k : ℕ) → k < length (opened_of files opened) → k < length opened
 unfolding opened_of
-opened_within files [] k h = cc
-opened_within files (o ∷ os) zero h = omega arith
-opened_within files (o ∷ os) (suc k) h = let e : k < length os = opened_within files os k h in omega arith
+opened_within files opened k h = omega (arith, length-map opened (seen files))
 
 -- a file was opened behind the others
-pub opens_found : (files : List NamedFile) (opened new : List OpenFile) (name : List ℕ) (index number : ℕ) → first_named files name ≡ Some index → number ≡ length opened → new ≡ opened ++ record { index = index; place = 0 } ∷ [] → Opens (opened_of files opened) (opened_of files new) name (Ok number)
+pub opens_found : (files : List NamedFile) (opened new : List OpenFile) (name : List ℕ) (index number : ℕ) → first_named files name ≡ Some index → number ≡ length opened
+    → new ≡ opened ++ record { index = index; place = 0; ended = false } ∷ [] → Opens (opened_of files opened) (opened_of files new) name (Ok number)
+unfolding opened_of
 opens_found [] opened new name index number e n is = cc
 opens_found (f ∷ fs) opened new name index number e n is =
-    let o : OpenFile = record { index = index; place = 0 } in
-    let found : NamedFile = get_or (f ∷ fs) index f in
-    let there : slice_get new number ≡ Some o = ap (slice_get new) n ∙ ap (λ (l : List OpenFile). slice_get l (length opened)) is ∙ slice_get_last opened o in (
-      opened_at (f ∷ fs) new number o found there (slice_get-get_or (f ∷ fs) index f (found_there (f ∷ fs) name index e)) ∙ ap (λ (l : List ℕ). Some (l, 0)) (found_name (f ∷ fs) name index f e),
-      λ k ne. opened_same (f ∷ fs) opened new k (ap (λ (l : List OpenFile). slice_get l k) is ∙ slice_get_before opened o k (λ same. ne (same ∙ sym n))),
+    let files : List NamedFile = f ∷ fs in
+    let o : OpenFile = record { index = index; place = 0; ended = false } in
+    let found : NamedFile = get_or files index f in
+    let there : slice_get files index ≡ Some found = slice_get-get_or files index f (found_there files name index e) in
+    let shown : seen files o ≡ begun name [] = ap (opened_file o) there ∙ ap (λ (l : List ℕ). begun l []) (found_name files name index f e) in (
+      n ∙ sym (length-map opened (seen files)),
+      ap (map (seen files)) is ∙ map-append (seen files) opened (o ∷ []) ∙ ap (λ (x : OpenedFile). map (seen files) opened ++ x ∷ []) shown,
     )
 
 -- the file of an opened number, and its place, are in order
@@ -126,39 +96,43 @@ open_here files opened k o valid lt is = subst (λ o. IsOpenIn files o) (sym is)
 pub place_within : (files : List NamedFile) (o : OpenFile) (f : NamedFile) → IsOpenIn files o → f ≡ get_or files o.index f → o.place ≤ length f.bytes.items
 place_within files o f valid at = subst (λ (g : NamedFile). o.place ≤ length g.bytes.items) (sym at) (valid.within f)
 
--- the name of an opened number, and its place
-opened_here : (files : List NamedFile) (opened : List OpenFile) (k : ℕ) (o : OpenFile) (f : NamedFile) → IsOpenIn files o → k < length opened → o ≡ get_or opened k o → f ≡ get_or files o.index f → opened_of files opened k ≡ Some (string_bytes f.name, o.place)
-opened_here files opened k o f valid lt is at = opened_at files opened k o f (slice_get_read opened (length opened) k o refl lt is) (slice_get_read files (length files) o.index f refl valid.there at)
+-- an opened number, as contracts see it
+seen_here : (files : List NamedFile) (opened : List OpenFile) (k : ℕ) (o : OpenFile) (f : NamedFile) → IsOpenIn files o → k < length opened → o ≡ get_or opened k o → f ≡ get_or files o.index f
+    → slice_get (opened_of files opened) k ≡ Some (opened_file o (Some f))
+unfolding opened_of
+seen_here files opened k o f valid lt is at =
+    slice_get-map (seen files) opened k ∙ ap (option_map (seen files)) (slice_get_read opened (length opened) k o refl lt is)
+    ∙ ap (λ (g : Option NamedFile). Some (opened_file o g)) (slice_get_read files (length files) o.index f refl valid.there at)
 
--- what stands in a pair that is there
-same_pair : (xs ys : List ℕ) (m n : ℕ) → ◌≡◌ {A = Option (List ℕ × ℕ)} (Some (xs, m)) (Some (ys, n)) → (xs ≡ ys) × (m ≡ n)
-same_pair xs ys m n e = (ap (λ (o : Option (List ℕ × ℕ)). (unwrap_or o (xs, m)).0) e, ap (λ (o : Option (List ℕ × ℕ)). (unwrap_or o (xs, m)).1) e)
+-- it is the one that stands at its number
+same_seen : (x y : OpenedFile) (found : Option OpenedFile) → found ≡ Some x → found ≡ Some y → x ≡ y
+same_seen x y found a b = ap (λ (g : Option OpenedFile). unwrap_or g x) (sym a ∙ b)
 
--- its place moves on
-pub moves_on : (files : List NamedFile) (opened : List OpenFile) (k : ℕ) (o : OpenFile) (f : NamedFile) (n : ℕ) → IsOpenIn files o → k < length opened → o ≡ get_or opened k o → f ≡ get_or files o.index f → o.place + n < 2 ^ 64 → MovesBy (opened_of files opened) (opened_of files (set opened k record { index = o.index; place = o.place + n })) k n
-moves_on files opened k o f n valid lt is at few =
-    let o' : OpenFile = record { index = o.index; place = o.place + n } in
-    let old = opened_here files opened k o f valid lt is at in
-    let new = opened_at files (set opened k o') k o' f (slice_get_set opened k o' lt) (slice_get_read files (length files) o.index f refl valid.there at) in (
-      λ name place e.
-          let names : string_bytes f.name ≡ name = (same_pair _ _ _ _ (sym old ∙ e)).0 in
-          let places : o.place ≡ place = (same_pair _ _ _ _ (sym old ∙ e)).1 in
-          let sum : o.place + n ≡ min (place + n) (2 ^ 64 - 1) = omega arith in
-          new ∙ ap (λ (l : List ℕ). Some (l, o.place + n)) names ∙ ap (λ (m : ℕ). Some (name, m)) sum,
-      λ j ne. opened_same files opened (set opened k o') j (slice_get_beside opened k o' j ne),
-    )
+-- it has given the bytes of one more read
+pub reads_here : (files : List NamedFile) (opened : List OpenFile) (k : ℕ) (o o' : OpenFile) (f : NamedFile) (n : ℕ) (buf : List ℕ) → IsOpenIn files o → k < length opened → o ≡ get_or opened k o → f ≡ get_or files o.index f
+    → o' ≡ record { index = o.index; place = o.place + n; ended = o.ended || tells_end n buf } → take n buf ≡ take n (drop o.place f.bytes.items)
+    → ReadsOn (opened_of files opened) (opened_of files (set opened k o')) k n buf
+unfolding opened_of
+reads_here files opened k o o' f n buf valid lt is at new next x e =
+    let old : opened_file o (Some f) ≡ x = same_seen (opened_file o (Some f)) x (slice_get (opened_of files opened) k) (seen_here files opened k o f valid lt is at) e in
+    let place : slice_get files o'.index ≡ Some f = ap (λ (p : OpenFile). slice_get files p.index) new ∙ slice_get_read files (length files) o.index f refl valid.there at in
+    let given : take (o.place + n) f.bytes.items ≡ take o.place f.bytes.items ++ take n buf = take-add o.place n f.bytes.items ∙ ap (λ (l : List ℕ). take o.place f.bytes.items ++ l) (sym next) in
+    let shown : seen files o' ≡ read_on n buf (opened_file o (Some f)) =
+    ap (opened_file o') place ∙ ap (λ (p : OpenFile). opened_file p (Some f)) new
+    ∙ ap (λ (l : List ℕ). record { name = string_bytes f.name; given = l; ended = o.ended || tells_end n buf }) given in
+    map-set (seen files) opened k o' ∙ ap (set (map (seen files) opened) k) (shown ∙ ap (read_on n buf) old)
 
 -- its next bytes are given
-pub gives_here : (files : List NamedFile) (opened : List OpenFile) (k : ℕ) (o : OpenFile) (f : NamedFile) (n : ℕ) (buf : List ℕ) → IsOpenIn files o → k < length opened → o ≡ get_or opened k o → f ≡ get_or files o.index f → IsNext f.bytes.items o.place n buf → GivesNext (Some (folder_of files)) (opened_of files opened) k n buf
-gives_here files opened k o f n buf valid lt is at next name place bytes e told =
-    let old = opened_here files opened k o f valid lt is at in
+pub gives_here : (files : List NamedFile) (opened : List OpenFile) (k : ℕ) (o : OpenFile) (f : NamedFile) (n : ℕ) (buf : List ℕ) → IsOpenIn files o → k < length opened → o ≡ get_or opened k o → f ≡ get_or files o.index f
+    → IsNext f.bytes.items o.place n buf → GivesNext (Some (folder_of files)) (opened_of files opened) k n buf
+gives_here files opened k o f n buf valid lt is at next x bytes e told =
+    let old : opened_file o (Some f) ≡ x = same_seen (opened_file o (Some f)) x (slice_get (opened_of files opened) k) (seen_here files opened k o f valid lt is at) e in
     let here : slice_get files o.index ≡ Some f = slice_get_read files (length files) o.index f refl valid.there at in
     let first : first_named files (string_bytes f.name) ≡ Some o.index = subst (λ (g : NamedFile). first_named files (string_bytes g.name) ≡ Some o.index) (sym at) (valid.first f) in
     let known : folder_of files (string_bytes f.name) ≡ Some f.bytes.items = folder_found files (string_bytes f.name) o.index f first here in
-    let names : string_bytes f.name ≡ name = (same_pair _ _ _ _ (sym old ∙ e)).0 in
-    let places : o.place ≡ place = (same_pair _ _ _ _ (sym old ∙ e)).1 in
-    let same : f.bytes.items ≡ bytes = ap (λ (b : Option (List ℕ)). unwrap_or b bytes) (sym known ∙ ap (folder_of files) names ∙ told) in
-    subst (λ (b : List ℕ). IsNext b place n buf) same (subst (λ (m : ℕ). IsNext f.bytes.items m n buf) places next)
+    let same : f.bytes.items ≡ bytes = ap (λ (b : Option (List ℕ)). unwrap_or b bytes) (sym known ∙ ap (λ (y : OpenedFile). folder_of files y.name) old ∙ told) in
+    let place : o.place ≡ length x.given = sym (length-take-le o.place f.bytes.items (place_within files o f valid at)) ∙ ap (λ (y : OpenedFile). length y.given) old in
+    subst (λ (b : List ℕ). IsNext b (length x.given) n buf) same (subst (λ (m : ℕ). IsNext f.bytes.items m n buf) place next)
 
 -- bytes that were copied to the front of a buffer, as many as fit
 pub next_copied : (bytes : List ℕ) (place n : ℕ) (buf copied : List ℕ) → copied ≡ take n (drop place bytes) → n ≡ min (length (drop place bytes)) (length buf) → IsNext bytes place n (copied ++ drop n buf)

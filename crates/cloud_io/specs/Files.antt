@@ -1,5 +1,6 @@
 -- Files by their names: what opening and reading do.
-use Rattle.std.specs.Prelude.{ℕ, ◌≡◌, ◌≢◌, ◌+◌, ◌-◌, ◌^◌, ◌<◌, ◌≤◌, min, List, take, drop, length, Option, Some, None, Result, Ok, Err, ⊤, IsSome, IfSome}
+use Rattle.std.specs.Prelude.{ℕ, ◌≡◌, ◌-◌, ◌<◌, ◌≤◌, List, [], ◌∷◌, ◌++◌, take, drop, length, slice_get, slice_set, Bool, true, false, ◌&&◌, ◌||◌, nat_eq, nat_lt, IsTrue, Option, Some, None, Result, Ok, Err, ⊤, IsSome, IfSome, IsSomeAnd}
+use Rattle.std.specs.Io.{StartsWith}
 use Rattle.cloud_io.specs.declared.faults.OpenFault.{OpenFault}
 use Rattle.cloud_io.specs.declared.faults.OpenFault.TheVariants.{NoFile, Failed, Memory}
 
@@ -7,18 +8,28 @@ use Rattle.cloud_io.specs.declared.faults.OpenFault.TheVariants.{NoFile, Failed,
 abbrev pub Folder : Type 0
 Folder = List ℕ → Option (List ℕ)
 
--- the name of each opened file and the place in it
+-- a file that was opened: its name, the bytes that its reads have given so far, and whether one of them told its end
+pub record OpenedFile : Type 0 where
+  pub name : List ℕ
+  pub given : List ℕ
+  pub ended : Bool
+
+-- the files that were opened, in order: the number of a file is its index among them
 abbrev pub Opened : Type 0
-Opened = ℕ → Option (List ℕ × ℕ)
+Opened = List OpenedFile
 
--- every file but this one has the name and the place that it had
-abbrev pub SameElsewhere : ℕ → Opened → Opened → Type 0
-SameElsewhere file old new = (k : ℕ) → k ≢ file → new k ≡ old k
+-- a file of the name that has given these bytes, and whose end was not told
+abbrev pub begun : List ℕ → List ℕ → OpenedFile
+begun name given = record { name = name; given = given; ended = false }
 
--- a file of the name was opened, at place 0; a refusal opens none
+-- the same, once its end was told
+abbrev pub finished : List ℕ → List ℕ → OpenedFile
+finished name given = record { name = name; given = given; ended = true }
+
+-- a file of the name was opened behind the others, and nothing of it was read; a refusal opens none
 abbrev pub Opens : Opened → Opened → List ℕ → Result ℕ OpenFault → Type 0
-Opens old new name (Ok file) = (new file ≡ Some (name, 0)) × SameElsewhere file old new
-Opens old new name (Err fault) = (k : ℕ) → new k ≡ old k
+Opens old new name (Ok file) = (file ≡ length old) × (new ≡ old ++ begun name [] ∷ [])
+Opens old new name (Err fault) = new ≡ old
 
 -- in a folder that is told, the name is there at Ok, and not there at NoFile
 abbrev pub AgreesWith : Option Folder → List ℕ → Result ℕ OpenFault → Type 0
@@ -27,17 +38,22 @@ AgreesWith files name (Err NoFile) = IfSome files (λ folder. folder name ≡ No
 AgreesWith files name (Err Failed) = ⊤
 AgreesWith files name (Err Memory) = ⊤
 
--- the place of the file moved by n, up to the last number of 64 bits, and no other file changed
-abbrev pub MovesBy : Opened → Opened → ℕ → ℕ → Type 0
-MovesBy old new file n =
-    ((name : List ℕ) (place : ℕ) →
-    old file ≡ Some (name, place) → new file ≡ Some (name, min (place + n) (2 ^ 64 - 1)))
-    × SameElsewhere file old new
+-- a read tells the end where it gives nothing to a buffer that has room
+abbrev pub tells_end : ℕ → List ℕ → Bool
+tells_end n buf = nat_eq n 0 && nat_lt 0 (length buf)
 
--- a read moved the place of its file by as much as it gave; a refusal moves nothing
-abbrev pub Moves : {E : Type 0} → Opened → Opened → ℕ → Result ℕ E → Type 0
-Moves old new file (Ok n) = MovesBy old new file n
-Moves old new file (Err e) = (k : ℕ) → new k ≡ old k
+-- a file that was read once more: it has given the first n bytes of the buffer, too
+abbrev pub read_on : ℕ → List ℕ → OpenedFile → OpenedFile
+read_on n buf o = record { name = o.name; given = o.given ++ take n buf; ended = o.ended || tells_end n buf }
+
+-- the file of this number was read once more, and no other changed
+abbrev pub ReadsOn : Opened → Opened → ℕ → ℕ → List ℕ → Type 0
+ReadsOn old new file n buf = (o : OpenedFile) → slice_get old file ≡ Some o → new ≡ slice_set old file (read_on n buf o)
+
+-- a read gave just the bytes that it put into its buffer; a refusal gives nothing
+abbrev pub Reads : {E : Type 0} → Opened → Opened → ℕ → Result ℕ E → List ℕ → Type 0
+Reads old new file (Ok n) buf = ReadsOn old new file n buf
+Reads old new file (Err e) buf = new ≡ old
 
 -- the next n of the bytes, from the place on; for a buffer that is not empty none only at the end
 pub record IsNext (bytes : List ℕ) (place n : ℕ) (buf : List ℕ) : Type 0 where
@@ -45,13 +61,17 @@ pub record IsNext (bytes : List ℕ) (place n : ℕ) (buf : List ℕ) : Type 0 w
   pub within : n ≤ length bytes - place
   pub ends : n ≡ 0 → 0 < length buf → length bytes ≤ place
 
--- n bytes of a file that is told were given, from its place on
+-- n bytes of a file that is told were given, those behind the ones that it had given
 abbrev pub GivesNext : Option Folder → Opened → ℕ → ℕ → List ℕ → Type 0
 GivesNext files opened file n buf =
-    IfSome files (λ folder. (name : List ℕ) (place : ℕ) (bytes : List ℕ) →
-    opened file ≡ Some (name, place) → folder name ≡ Some bytes → IsNext bytes place n buf)
+    IfSome files (λ folder. (o : OpenedFile) (bytes : List ℕ) →
+    slice_get opened file ≡ Some o → folder o.name ≡ Some bytes → IsNext bytes (length o.given) n buf)
 
 -- a read gave the next bytes
 abbrev pub Gives : {E : Type 0} → Option Folder → Opened → ℕ → Result ℕ E → List ℕ → Type 0
 Gives files opened file (Ok n) buf = GivesNext files opened file n buf
 Gives files opened file (Err e) buf = ⊤
+
+-- the file has given the first bytes that the folder has of its name, and all of them where its end was told
+abbrev pub IsGivenBy : Folder → OpenedFile → Type 0
+IsGivenBy folder o = IsSomeAnd (folder o.name) (λ bytes. StartsWith bytes o.given × (IsTrue o.ended → o.given ≡ bytes))

@@ -1,7 +1,7 @@
 -- Files in memory, and those of them that were opened.
-use Rattle.std.specs.Prelude.{ℕ, ◌≡◌, ◌≤◌, ◌<◌, List, length, Option, Some, slice_get, slice_index_or, option_and_then, option_map, string_bytes, position, find, Bool}
+use Rattle.std.specs.Prelude.{ℕ, ◌≡◌, ◌≤◌, ◌<◌, List, [], length, map, take, Option, Some, None, slice_get, slice_index_or, option_map, string_bytes, position, find, Bool}
 use Rattle.std.specs.Str.{bytes_eq}
-use Rattle.cloud_io.specs.Files.{Folder, Opened}
+use Rattle.cloud_io.specs.Files.{Folder, Opened, OpenedFile, begun}
 use Rattle.cloud_io.specs.declared.named_file.NamedFile.{NamedFile}
 use Rattle.cloud_io.specs.declared.named_file.OpenFile.{OpenFile}
 
@@ -17,12 +17,14 @@ first_named files name = position (has_name name) files
 unfoldable pub folder_of : List NamedFile → Folder
 folder_of files name = option_map (λ (f : NamedFile). f.bytes.items) (find (has_name name) files)
 
--- the name of each opened file and the place in it
+-- a file that was opened, and is there: it has given its bytes up to the place
+abbrev pub opened_file : OpenFile → Option NamedFile → OpenedFile
+opened_file o (Some f) = record { name = string_bytes f.name; given = take o.place f.bytes.items; ended = o.ended }
+opened_file o None = begun [] []
+
+-- the files that were opened
 unfoldable pub opened_of : List NamedFile → List OpenFile → Opened
-opened_of files opened k =
-    option_and_then (λ (o : OpenFile).
-    option_map (λ (f : NamedFile). (string_bytes f.name, o.place)) (slice_get files o.index))
-    (slice_get opened k)
+opened_of files opened = map (λ o. opened_file o (slice_get files o.index)) opened
 
 -- an opened file is the first of its name, and its place is not behind its end
 pub record IsOpenIn (files : List NamedFile) (o : OpenFile) : Type 0 where

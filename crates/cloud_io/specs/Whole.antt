@@ -1,7 +1,7 @@
 -- Whole files: what reading one and writing one answer.
-use Rattle.std.specs.Prelude.{ℕ, ◌≡◌, ◌⊎◌, ◌<◌, ◌≤◌, List, take, length, Option, Some, None, IfSome, IsSomeAnd, Result, Ok, Err, MatchResult, Vec, ⊤}
+use Rattle.std.specs.Prelude.{ℕ, ◌≡◌, ◌⊎◌, ◌<◌, ◌≤◌, List, [], ◌∷◌, ◌++◌, take, length, Option, Some, None, IfSome, IsSomeAnd, Result, Ok, Err, MatchResult, Vec, ⊤}
 use Rattle.std.specs.Io.KnownBytes.{Appends}
-use Rattle.cloud_io.specs.Files.{Folder, Opened, SameElsewhere}
+use Rattle.cloud_io.specs.Files.{Folder, Opened, OpenedFile, IsGivenBy, begun, finished}
 use Rattle.cloud_io.specs.declared.faults.OpenFault.{OpenFault}
 use Rattle.cloud_io.specs.declared.faults.OpenFault.TheVariants.{NoFile as OpenNoFile, Failed as OpenFailed, Memory as OpenMemory}
 use Rattle.cloud_io.specs.declared.faults.ReadFault.{ReadFault}
@@ -24,32 +24,27 @@ ReadsWhole files name most (Err (TooLong limit)) =
     IfSome files (λ folder. IsSomeAnd (folder name) (λ bytes. most < length bytes))
 ReadsWhole files name most (Err Memory) = ⊤
 
--- one file of the name was opened and stands at the place, and no other changed
-pub record OpensTo (old new : Opened) (name : List ℕ) (place : ℕ) : Type 0 where
-  pub file : ℕ
-  pub stands : new file ≡ Some (name, place)
-  pub others : SameElsewhere file old new
+-- this file was opened behind the others; in a folder that is told it has given what that has of its name
+pub record OpensAs (files : Option Folder) (old new : Opened) (o : OpenedFile) : Type 0 where
+  pub behind : new ≡ old ++ o ∷ []
+  pub given : IfSome files (λ folder. IsGivenBy folder o)
 
--- at most one file changed
-abbrev pub ChangesOne : Opened → Opened → Type 0
-ChangesOne old new = (file : ℕ) × SameElsewhere file old new
+-- no file was opened, or one of the name that has given no more than most bytes, and whose end was not told
+abbrev pub StopsWithin : Option Folder → Opened → Opened → List ℕ → ℕ → Type 0
+StopsWithin files old new name most =
+    (new ≡ old) ⊎ ((given : List ℕ) × (length given ≤ most) × OpensAs files old new (begun name given))
 
--- no file was opened, or one of the name, of which no more than most bytes came
-abbrev pub StopsWithin : Opened → Opened → List ℕ → ℕ → Type 0
-StopsWithin old new name most =
-    ((k : ℕ) → new k ≡ old k) ⊎ ((place : ℕ) × (place ≤ most) × OpensTo old new name place)
-
--- how far the opened file was read: at Ok as far as the bytes go, which are not too many; at TooLong,
--- which tells the limit of this call, beyond it
+-- what became of the files that were opened: at Ok one of the name has given exactly these bytes, which are not too many, and
+-- its end was told; at TooLong, which tells the limit of this call, one has given more bytes than that
 abbrev pub ReadsTo :
-    {A : Type 0} → Opened → Opened → List ℕ → ℕ → Result (Vec ℕ A) ReadFault → Type 0
-ReadsTo old new name most (Ok bytes) =
-    OpensTo old new name (length bytes.items) × (length bytes.items ≤ most)
-ReadsTo old new name most (Err NoFile) = (k : ℕ) → new k ≡ old k
-ReadsTo old new name most (Err Failed) = StopsWithin old new name most
-ReadsTo old new name most (Err (TooLong limit)) =
-    (limit ≡ most) × ((place : ℕ) × (most < place) × OpensTo old new name place)
-ReadsTo old new name most (Err Memory) = ChangesOne old new
+    {A : Type 0} → Option Folder → Opened → Opened → List ℕ → ℕ → Result (Vec ℕ A) ReadFault → Type 0
+ReadsTo files old new name most (Ok bytes) =
+    OpensAs files old new (finished name bytes.items) × (length bytes.items ≤ most)
+ReadsTo files old new name most (Err NoFile) = new ≡ old
+ReadsTo files old new name most (Err Failed) = StopsWithin files old new name most
+ReadsTo files old new name most (Err (TooLong limit)) =
+    (limit ≡ most) × ((given : List ℕ) × (most < length given) × OpensAs files old new (begun name given))
+ReadsTo files old new name most (Err Memory) = StopsWithin files old new name most
 
 -- some first bytes, but not all, were appended
 abbrev pub AppendsPrefix : Option (List ℕ) → Option (List ℕ) → List ℕ → Type 0

@@ -1,4 +1,4 @@
-ghost use Rattle.std.specs.Prelude.{◌≡◌};
+ghost use Rattle.std.specs.Prelude.{◌≡◌, []};
 ghost use Rattle.cloud_io.specs.SystemFiles.{open_fault};
 
 use crate::faults::{Failed, OpenFault};
@@ -27,8 +27,9 @@ impl<R: Files + Send> FileInputs<R>
 where
     R::File: Send,
 {
-    /// The files that the runtime reaches, and two counts of 0.
+    /// The files that the runtime reaches, none of them opened, and two counts of 0.
     pub fn new(rt: R, alloc: Global) -> FileInputs<R>
+        ensures opened { ⟦<FileInputs<R> as Inputs>⟧.opened result ≡ [] }
         ensures faults { ⟦<FileInputs<R> as Inputs>⟧.faults result ≡ 0 }
         ensures missing { ⟦<FileInputs<R> as Inputs>⟧.missing result ≡ 0 }
     {
@@ -47,11 +48,11 @@ where
     R::File: Send,
 {
     ghost use Rattle.std.specs.Prelude.{None};
-    ghost use Rattle.cloud_io.specs.SystemFiles.{places_of, left_of};
+    ghost use Rattle.cloud_io.specs.SystemFiles.{opened_of, left_of};
 
     ghost files = { λ _. None };
 
-    ghost opened = { λ s. places_of s.opened.items };
+    ghost opened = { λ s. opened_of s.opened.items };
 
     ghost left = { λ s. left_of R.File.remaining s.opened.items };
 

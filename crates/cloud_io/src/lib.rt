@@ -2,9 +2,11 @@
 //! sinks in memory and to the standard streams, and the reading and writing of a whole file.
 #![tactic(auto)]
 
+mod ends;
 mod failing_calls;
 mod faults;
 mod file_inputs;
+mod given_bytes;
 mod held_files;
 mod inputs;
 mod mem_inputs;

@@ -16,13 +16,13 @@ pub struct MemInputs {
 }
 
 impl MemInputs {
-    ghost use Rattle.std.specs.Prelude.{◌≡◌, ℕ, Some, None};
+    ghost use Rattle.std.specs.Prelude.{◌≡◌, [], Some};
     ghost use Rattle.cloud_io.specs.HeldFiles.{folder_of};
 
     /// These files, none of them opened, and two counts of 0.
     pub fn new(alloc: Global, files: Vec<NamedFile>, failing: Vec<u64>) -> MemInputs
         ensures files { ⟦<MemInputs as Inputs>⟧.files result ≡ Some (folder_of files.items) }
-        ensures opened { (k : ℕ) → ⟦<MemInputs as Inputs>⟧.opened result k ≡ None }
+        ensures opened { ⟦<MemInputs as Inputs>⟧.opened result ≡ [] }
         ensures faults { ⟦<MemInputs as Inputs>⟧.faults result ≡ 0 }
         ensures missing { ⟦<MemInputs as Inputs>⟧.missing result ≡ 0 }
     {
@@ -37,11 +37,11 @@ impl MemInputs {
 
 impl Inputs for MemInputs {
     ghost use Rattle.std.specs.Prelude.{Some, None};
-    ghost use Rattle.cloud_io.specs.HeldViews.{folder, places};
+    ghost use Rattle.cloud_io.specs.HeldViews.{folder, opened_files};
 
     ghost files = { λ s. Some (folder s.held) };
 
-    ghost opened = { λ s. places s.held };
+    ghost opened = { λ s. opened_files s.held };
 
     ghost left = { λ _ _. None };
 

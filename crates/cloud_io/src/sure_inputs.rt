@@ -12,13 +12,13 @@ pub struct SureInputs {
 }
 
 impl SureInputs {
-    ghost use Rattle.std.specs.Prelude.{◌≡◌, ℕ, Some, None};
+    ghost use Rattle.std.specs.Prelude.{◌≡◌, [], Some};
     ghost use Rattle.cloud_io.specs.HeldFiles.{folder_of};
 
     /// These files, none of them opened, and a count of 0.
     pub fn new(alloc: Global, files: Vec<NamedFile>) -> SureInputs
         ensures files { ⟦<SureInputs as Inputs>⟧.files result ≡ Some (folder_of files.items) }
-        ensures opened { (k : ℕ) → ⟦<SureInputs as Inputs>⟧.opened result k ≡ None }
+        ensures opened { ⟦<SureInputs as Inputs>⟧.opened result ≡ [] }
         ensures missing { ⟦<SureInputs as Inputs>⟧.missing result ≡ 0 }
     {
         SureInputs {
@@ -30,11 +30,11 @@ impl SureInputs {
 
 impl Inputs for SureInputs {
     ghost use Rattle.std.specs.Prelude.{Some, None};
-    ghost use Rattle.cloud_io.specs.HeldViews.{folder, places};
+    ghost use Rattle.cloud_io.specs.HeldViews.{folder, opened_files};
 
     ghost files = { λ s. Some (folder s.held) };
 
-    ghost opened = { λ s. places s.held };
+    ghost opened = { λ s. opened_files s.held };
 
     ghost left = { λ _ _. None };
 

@@ -1,29 +1,33 @@
-ghost use Rattle.std.specs.Prelude.{◌≡◌, Some, Ok, IfNone};
+ghost use Rattle.std.specs.Prelude.{◌≡◌, Some, Ok, IfNone, [], string_bytes};
 ghost use Rattle.std.specs.Io.{ReadsAtMost};
 ghost use Rattle.std.specs.Io.KnownBytes.{ReadConsumes};
-ghost use Rattle.cloud_io.specs.SystemFiles.{left_in, behind};
+ghost use Rattle.cloud_io.specs.SystemFiles.{opened_file, left_in, behind};
 
+use crate::ends::tells_end;
 use crate::faults::Failed;
+use crate::given_bytes::GivenBytes;
 use std::io::Read;
 
-/// A file of the system that was opened, and the place in it. It is closed where its end is read, so
-/// that many files can be read one after the other.
+/// A file of the system that was opened, and what its reads have given. It is closed where its end is
+/// read, so that many files can be read one after the other.
 #[derive(Drop)]
 pub struct SystemFile<F> {
     name: String,
     file: Option<F>,
-    place: u64,
+    given: GivenBytes,
 }
 
 impl<F: Read + Drop> SystemFile<F> {
-    /// The file of this name, at place 0.
+    /// The file of this name, of which nothing was read.
     pub fn new(name: String, file: F) -> SystemFile<F>
-        ensures { result ≡ record { name = name; file = Some file; place = 0 } }
+        ensures name { result.name ≡ name }
+        ensures file { result.file ≡ Some file }
+        ensures given { result.given.bytes ≡ [] }
     {
         SystemFile {
             name,
             file: Some(file),
-            place: 0,
+            given: GivenBytes::new(),
         }
     }
 
@@ -31,19 +35,18 @@ impl<F: Read + Drop> SystemFile<F> {
     /// fails none were read.
     pub fn read(&mut self, buf: &mut [u8]) -> Result<usize, Failed>
         ensures bound { ReadsAtMost result buf.new }
-        ensures moves { self.new ≡ record self.old { file = self.new.file; place = behind self.old.place result } }
+        ensures reads { opened_file self.new ≡ behind (opened_file self.old) result buf.new }
         ensures closed { IfNone self.old.file (result ≡ Ok 0) }
         ensures bytes { ReadConsumes (left_in F.remaining self.old.file) (left_in F.remaining self.new.file) result buf.new }
     {
-        let place = self.place;
         let Some(file) = &mut self.file else {
             return Ok(0);
         };
         let Ok(n) = file.read(buf) else {
             return Err(Failed);
         };
-        self.place = place.saturating_add(n as u64);
-        if n == 0 && !buf.is_empty() {
+        self.given.add(&buf[..n]);
+        if tells_end(n, buf) {
             self.file = None;
         }
         Ok(n)

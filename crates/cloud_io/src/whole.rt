@@ -22,7 +22,7 @@ pub fn read_all<I: Inputs>(
 ) -> Result<Vec<u8>, ReadFault>
     ensures files { I.files inputs.new ≡ I.files inputs.old }
     ensures told { ReadsWhole (I.files inputs.old) name.now most result }
-    ensures place { ReadsTo (I.opened inputs.old) (I.opened inputs.new) name.now most result }
+    ensures opened { ReadsTo (I.files inputs.old) (I.opened inputs.old) (I.opened inputs.new) name.now most result }
     ensures causes { HasCauses (I.faults inputs.old) (I.faults inputs.new)
         (I.missing inputs.old) (I.missing inputs.new) ReadFault.Failed ReadFault.NoFile result }
 {

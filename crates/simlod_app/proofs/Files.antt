@@ -1,11 +1,11 @@
 -- One file that was read, or not.
-use Rattle.std.proofs.Common.{◌≡◌, inl, inr, ℕ, ◌<◌, ◌≤◌, List, length, replicate, Bool, true, false, nat_lt, Some, None, Option, Result, Ok, Err, ap, ◌∙◌, sym, refl, subst, Global, if◌then◌else◌}
-use Rattle.std.specs.Prelude.{Vec, IfSome, IsSomeAnd, IfOk}
+use Rattle.std.proofs.Common.{◌≡◌, ◌⊎◌, inl, inr, ℕ, ◌<◌, ◌≤◌, List, length, Bool, true, false, nat_lt, Some, None, Option, Result, Ok, Err, ap, ◌∙◌, sym, refl, subst, Global, if◌then◌else◌}
+use Rattle.std.specs.Prelude.{Vec, IfSome, IsSomeAnd, IfOk, IsTrue, option_map}
 use Rattle.std.proofs.lemmas.Bool.{lt-ltb, le-ltb}
-use Rattle.std.proofs.lemmas.List.{length-replicate}
+use Rattle.std.proofs.lemmas.List.{append-nil}
 use Rattle.cloud_io.specs.Counts.{Rose, HasCauses}
-use Rattle.cloud_io.specs.Files.{Folder, Opened}
-use Rattle.cloud_io.specs.Whole.{ReadsWhole, ReadsTo}
+use Rattle.cloud_io.specs.Files.{Folder, Opened, OpenedFile, IsGivenBy, begun, finished}
+use Rattle.cloud_io.specs.Whole.{OpensAs, ReadsWhole, ReadsTo, StopsWithin}
 use Rattle.cloud_io.specs.declared.faults.ReadFault.{ReadFault}
 use Rattle.cloud_io.specs.declared.faults.ReadFault.TheVariants as reading
 use Rattle.cube_math.specs.Points.{PointValue}
@@ -25,19 +25,45 @@ use Rattle.xyz_points.specs.declared.reader.XyzFault.TheVariants as text
 use Rattle.simlod_app.specs.declared.reading.Reading.{Reading}
 use Rattle.simlod_app.specs.declared.reading.FileCloud.{FileCloud}
 use Rattle.simlod_app.specs.Dues.{IsDue, GivesOver, Gives}
-use Rattle.simlod_app.specs.Outcomes.{IsSource}
+use Rattle.simlod_app.specs.Reads.{IsOpened, IsReadFor, MayCutShort, OfFile}
 use Rattle.simlod_app.specs.RunFaults.{read_fault, xyz_fault, las_fault, IsOrMemory}
 use Rattle.simlod_app.specs.Runs.{is_las, las_frame, frame_of, points_in, or_xyz_fault, or_las_fault, rgb_byte, beside_frame, framed_in}
 use Rattle.simlod_app.proofs.DueLaws.{due_first, gives_through}
-use Rattle.simlod_app.proofs.Readings.{content_of, is_content}
 
--- what is due of a file whose reading failed is due with some content
-abbrev pub IsDueOf : Option Folder → Text → Reading → Type 0 → Type 0 → Fault → Type 0
-IsDueOf told name how fails misses f =
-    (content : Option (List ℕ)) × IsSource told name content × IsDue (λ failed. (failed ≡ name) × fails) misses (framed_in how name content) f
+-- what is due of a file whose reading ended by a fault, by what it gave and by what the inputs tell
+pub record IsDueOf (told : Option Folder) (name : Text) (how : Reading) (old new : Opened) (fails misses : Type 0) (f : Fault) : Type 0 where
+  pub file : Option OpenedFile
+  pub opened : IsOpened told name old new file
+  pub read : MayCutShort f ⊎ IfSome file (λ o. IsTrue o.ended)
+  pub due : OfFile told name file (λ content. IsDue (λ failed. (failed ≡ name) × fails) misses (framed_in how name content) f)
 
-any_content : (told : Option Folder) (name : Text) (how : Reading) (fails misses : Type 0) → IsDueOf told name how fails misses fault.Memory
-any_content told name how fails misses = (content_of told name, is_content told name, tt)
+of_folder : (told : Option Folder) (P : Folder → Type 0) → ((folder : Folder) → P folder) → IfSome told P
+of_folder None P always = tt
+of_folder (Some folder) P always = always folder
+
+-- no file was opened
+unopened : (told : Option Folder) (name : Text) (old new : Opened) → new ≡ old → IsOpened told name old new None
+unopened told name old new same = record { behind = same ∙ sym (append-nil old); named = tt; given = of_folder told _ (λ folder. tt) }
+
+-- one was
+opened_as : (told : Option Folder) (name : Text) (old new : Opened) (o : OpenedFile) → OpensAs told old new o → o.name ≡ name → IsOpened told name old new (Some o)
+opened_as told name old new o one named = record { behind = one.behind; named = named; given = one.given }
+
+-- a fact that holds of whatever a file has
+of_any : (told : Option Folder) (name : Text) (file : Option OpenedFile) (P : Option (List ℕ) → Type 0) → ((content : Option (List ℕ)) → P content) → OfFile told name file P
+of_any None name file P always = (always (option_map (λ o. o.given) file), tt)
+of_any (Some folder) name file P always = (always (option_map (λ o. o.given) file), always (folder name))
+
+-- a file that was left before its end
+cut_short : (told : Option Folder) (name : Text) (how : Reading) (old new : Opened) (fails misses : Type 0) (f : Fault) → MayCutShort f → ((content : Option (List ℕ)) → IsDue (λ failed. (failed ≡ name) × fails) misses (framed_in how name content) f)
+    → StopsWithin told old new name 1000000000 → IsDueOf told name how old new fails misses f
+cut_short told name how old new fails misses f may due (inl same) =
+    let P : Option (List ℕ) → Type 0 = λ content. IsDue (λ failed. (failed ≡ name) × fails) misses (framed_in how name content) f in
+    record { file = None; opened = unopened told name old new same; read = inl may; due = of_any told name None P due }
+cut_short told name how old new fails misses f may due (inr stops) =
+    let P : Option (List ℕ) → Type 0 = λ content. IsDue (λ failed. (failed ≡ name) × fails) misses (framed_in how name content) f in
+    let file : Option OpenedFile = Some (begun name stops.0) in
+    record { file = file; opened = opened_as told name old new (begun name stops.0) stops.2 refl; read = inl may; due = of_any told name file P due }
 
 -- what is due of bytes, by their number
 by_length : (how : Reading) (name : Text) (bytes : List ℕ) (b : Bool) → nat_lt 1000000000 (length bytes) ≡ b → framed_in how name (Some bytes) ≡ beside_frame (name, Some bytes) (if b then Err (fault.TooLong name) else points_in how name bytes)
@@ -46,58 +72,93 @@ by_length how name bytes b is = ap (λ c. beside_frame (name, Some bytes) (if c 
 too_long : (how : Reading) (name : Text) (bytes : List ℕ) → 1000000000 < length bytes → framed_in how name (Some bytes) ≡ Err (fault.TooLong name)
 too_long how name bytes long = by_length how name bytes true (lt-ltb _ _ long)
 
-long_content : (told : Option Folder) (name : Text) (how : Reading) (place : ℕ) (fails misses : Type 0) → 1000000000 < place → IfSome told (λ folder. IsSomeAnd (folder name) (λ bytes. 1000000000 < length bytes))
-    → IsDueOf told name how fails misses (fault.TooLong name)
-long_content None name how place fails misses long tells =
-    let bytes : List ℕ = replicate place 0 in
-    let more : 1000000000 < length bytes = subst (λ (n : ℕ). 1000000000 < n) (sym (length-replicate place 0)) long in
-    (Some bytes, tt, too_long how name bytes more)
-long_content (Some folder) name how place fails misses long tells = told (folder name) refl tells
+long_told : (told : Option Folder) (name : Text) (how : Reading) (fails misses : Type 0) → IfSome told (λ folder. IsSomeAnd (folder name) (λ bytes. 1000000000 < length bytes))
+    → IfSome told (λ folder. IsDue (λ failed. (failed ≡ name) × fails) misses (framed_in how name (folder name)) (fault.TooLong name))
+long_told None name how fails misses tells = tt
+long_told (Some folder) name how fails misses tells = long (folder name) tells
   where
-    told : (o : Option (List ℕ)) → folder name ≡ o → IsSomeAnd o (λ bytes. 1000000000 < length bytes) → IsDueOf (Some folder) name how fails misses (fault.TooLong name)
-    told None is h = absurd h
-    told (Some bytes) is h = (Some bytes, sym is, too_long how name bytes h)
+    long : (o : Option (List ℕ)) → IsSomeAnd o (λ bytes. 1000000000 < length bytes) → framed_in how name o ≡ Err (fault.TooLong name)
+    long None h = absurd h
+    long (Some bytes) h = too_long how name bytes h
 
-no_content : (told : Option Folder) (name : Text) → IfSome told (λ folder. folder name ≡ None) → IsSource told name None
-no_content None name tells = tt
-no_content (Some folder) name tells = sym tells
+missing_told : (told : Option Folder) (name : Text) (how : Reading) (fails misses : Type 0) → misses → IfSome told (λ folder. folder name ≡ None)
+    → IfSome told (λ folder. IsDue (λ failed. (failed ≡ name) × fails) misses (framed_in how name (folder name)) (fault.NoFile name))
+missing_told None name how fails misses missed tells = tt
+missing_told (Some folder) name how fails misses missed tells = (missed, ap (framed_in how name) tells)
 
 -- a file that was not read to its end
 unread : (told : Option Folder) (old new : Opened) (name : Text) (how : Reading) (faults faults' missing missing' : ℕ) (e : ReadFault)
-    → ReadsWhole {A = Global} told name 1000000000 (Err e) → ReadsTo {A = Global} old new name 1000000000 (Err e) → HasCauses {T = Vec ℕ Global} {E = ReadFault} faults faults' missing missing' reading.Failed reading.NoFile (Err e)
-    → IsDueOf told name how (Rose faults faults') (Rose missing missing') (read_fault name e)
-unread told old new name how faults faults' missing missing' reading.NoFile tells place causes = (None, no_content told name tells, (causes.no_file_rose refl, refl))
-unread told old new name how faults faults' missing missing' reading.Failed tells place causes = (content_of told name, is_content told name, (refl, causes.failed_rose refl))
-unread told old new name how faults faults' missing missing' (reading.TooLong most) tells place causes =
-    long_content told name how place.1.0 (Rose faults faults') (Rose missing missing') place.1.1 tells
-unread told old new name how faults faults' missing missing' reading.Memory tells place causes = any_content told name how (Rose faults faults') (Rose missing missing')
+    → ReadsWhole {A = Global} told name 1000000000 (Err e) → ReadsTo {A = Global} told old new name 1000000000 (Err e) → HasCauses {T = Vec ℕ Global} {E = ReadFault} faults faults' missing missing' reading.Failed reading.NoFile (Err e)
+    → IsDueOf told name how old new (Rose faults faults') (Rose missing missing') (read_fault name e)
+unread told old new name how faults faults' missing missing' reading.NoFile tells left causes =
+    let missed : Rose missing missing' = causes.no_file_rose refl in
+    record {
+      file = None;
+      opened = unopened told name old new left;
+      read = inr tt;
+      due = ((missed, refl), missing_told told name how (Rose faults faults') (Rose missing missing') missed tells);
+    }
+unread told old new name how faults faults' missing missing' reading.Failed tells left causes =
+    cut_short told name how old new (Rose faults faults') (Rose missing missing') (fault.ReadFault name) tt (λ content. (refl, causes.failed_rose refl)) left
+unread told old new name how faults faults' missing missing' (reading.TooLong most) tells left causes =
+    let given : List ℕ = left.1.0 in
+    record {
+      file = Some (begun name given);
+      opened = opened_as told name old new (begun name given) left.1.2 refl;
+      read = inl tt;
+      due = (too_long how name given left.1.1, long_told told name how (Rose faults faults') (Rose missing missing') tells);
+    }
+unread told old new name how faults faults' missing missing' reading.Memory tells left causes =
+    cut_short told name how old new (Rose faults faults') (Rose missing missing') fault.Memory tt (λ content. tt) left
+
+-- the same where there was no memory for the name
+unnamed : (told : Option Folder) (name : Text) (how : Reading) (old new : Opened) (fails misses : Type 0) (f : Fault) → IsDueOf told name how old new fails misses f → IsDueOf told name how old new fails misses fault.Memory
+unnamed told name how old new fails misses f h =
+    let P : Option (List ℕ) → Type 0 = λ content. IsDue (λ failed. (failed ≡ name) × fails) misses (framed_in how name content) fault.Memory in
+    record { file = h.file; opened = h.opened; read = inl tt; due = of_any told name h.file P (λ content. tt) }
 
 pub not_read : (told : Option Folder) (old new : Opened) (name : Text) (how : Reading) (faults faults' missing missing' : ℕ) (e : ReadFault) (f : Fault)
-    → ReadsWhole {A = Global} told name 1000000000 (Err e) → ReadsTo {A = Global} old new name 1000000000 (Err e) → HasCauses {T = Vec ℕ Global} {E = ReadFault} faults faults' missing missing' reading.Failed reading.NoFile (Err e)
-    → IsOrMemory (read_fault name e) f → IsDueOf told name how (Rose faults faults') (Rose missing missing') f
-not_read told old new name how faults faults' missing missing' e f tells place causes (inl memory) =
-    subst (λ (g : Fault). IsDueOf told name how (Rose faults faults') (Rose missing missing') g) (sym memory) (any_content told name how (Rose faults faults') (Rose missing missing'))
-not_read told old new name how faults faults' missing missing' e f tells place causes (inr is) =
-    subst (λ (g : Fault). IsDueOf told name how (Rose faults faults') (Rose missing missing') g) (sym is) (unread told old new name how faults faults' missing missing' e tells place causes)
-
-bytes_told : (told : Option Folder) (name : Text) (bytes : List ℕ) → IfSome told (λ folder. folder name ≡ Some bytes) → IsSource told name (Some bytes)
-bytes_told None name bytes tells = tt
-bytes_told (Some folder) name bytes tells = sym tells
+    → ReadsWhole {A = Global} told name 1000000000 (Err e) → ReadsTo {A = Global} told old new name 1000000000 (Err e) → HasCauses {T = Vec ℕ Global} {E = ReadFault} faults faults' missing missing' reading.Failed reading.NoFile (Err e)
+    → IsOrMemory (read_fault name e) f → IsDueOf told name how old new (Rose faults faults') (Rose missing missing') f
+not_read told old new name how faults faults' missing missing' e f tells left causes (inl memory) =
+    subst (λ (g : Fault). IsDueOf told name how old new (Rose faults faults') (Rose missing missing') g) (sym memory)
+    (unnamed told name how old new (Rose faults faults') (Rose missing missing') (read_fault name e) (unread told old new name how faults faults' missing missing' e tells left causes))
+not_read told old new name how faults faults' missing missing' e f tells left causes (inr is) =
+    subst (λ (g : Fault). IsDueOf told name how old new (Rose faults faults') (Rose missing missing') g) (sym is) (unread told old new name how faults faults' missing missing' e tells left causes)
 
 abbrev pub framed : FileCloud → List PointValue × Option (List ℕ)
 framed c = (c.points.items, c.frame)
 
 -- a file of which the bytes were read
-pub parsed : (told : Option Folder) (name : Text) (how : Reading) (bytes slice : List ℕ) (found : Result FileCloud Fault) (fails misses : Type 0) → length bytes ≤ 1000000000 → slice ≡ bytes
-    → IfSome told (λ folder. folder name ≡ Some bytes) → Gives framed found (beside_frame (name, Some slice) (points_in how name slice))
-    → (content : Option (List ℕ)) × IsSource told name content × GivesOver (λ failed. (failed ≡ name) × fails) misses framed found (framed_in how name content)
-parsed told name how bytes slice found fails misses short lent tells gives = (
-  Some bytes,
-  bytes_told told name bytes tells,
-  gives_through (λ failed. ⊥) (λ failed. (failed ≡ name) × fails) ⊥ misses framed found (beside_frame (name, Some slice) (points_in how name slice)) (framed_in how name (Some bytes))
-      (λ failed no. absurd no) (λ no. absurd no)
-      (by_length how name bytes false (le-ltb _ _ short) ∙ ap (λ bs. beside_frame (name, Some bs) (points_in how name bs)) (sym lent)) gives,
-)
+pub record IsParsed (told : Option Folder) (name : Text) (how : Reading) (old new : Opened) (fails misses : Type 0) (found : Result FileCloud Fault) : Type 0 where
+  pub file : Option OpenedFile
+  pub opened : IsOpened told name old new file
+  pub read : IsReadFor found file
+  pub due : OfFile told name file (λ content. GivesOver (λ failed. (failed ≡ name) × fails) misses framed found (framed_in how name content))
+
+read_whole : (name : Text) (bytes : List ℕ) (found : Result FileCloud Fault) → IsReadFor found (Some (finished name bytes))
+read_whole name bytes (Ok cloud) = refl
+read_whole name bytes (Err f) = inr refl
+
+pub parsed : (told : Option Folder) (name : Text) (how : Reading) (old new : Opened) (bytes slice : List ℕ) (found : Result FileCloud Fault) (fails misses : Type 0) → OpensAs told old new (finished name bytes) → length bytes ≤ 1000000000 → slice ≡ bytes
+    → IfSome told (λ folder. folder name ≡ Some bytes) → Gives framed found (beside_frame (name, Some slice) (points_in how name slice)) → IsParsed told name how old new fails misses found
+parsed told name how old new bytes slice found fails misses one short lent tells gives =
+    let P : Option (List ℕ) → Type 0 = λ content. GivesOver (λ failed. (failed ≡ name) × fails) misses framed found (framed_in how name content) in
+    let here : P (Some bytes) =
+    gives_through (λ failed. ⊥) (λ failed. (failed ≡ name) × fails) ⊥ misses framed found (beside_frame (name, Some slice) (points_in how name slice)) (framed_in how name (Some bytes))
+    (λ failed no. absurd no) (λ no. absurd no)
+    (by_length how name bytes false (le-ltb _ _ short) ∙ ap (λ bs. beside_frame (name, Some bs) (points_in how name bs)) (sym lent)) gives in
+    record {
+      file = Some (finished name bytes);
+      opened = opened_as told name old new (finished name bytes) one refl;
+      read = read_whole name bytes found;
+      due = (here, told_bytes told tells here);
+    }
+  where
+    told_bytes : (told : Option Folder) → IfSome told (λ folder. folder name ≡ Some bytes) → GivesOver (λ failed. (failed ≡ name) × fails) misses framed found (framed_in how name (Some bytes))
+        → IfSome told (λ folder. GivesOver (λ failed. (failed ≡ name) × fails) misses framed found (framed_in how name (folder name)))
+    told_bytes None is here = tt
+    told_bytes (Some folder) is here = subst (λ (content : Option (List ℕ)). GivesOver (λ failed. (failed ≡ name) × fails) misses framed found (framed_in how name content)) (sym is) here
 
 -- points beside the scales and offsets of their file
 beside : (name : Text) (bytes : List ℕ) (found : Result FileCloud Fault) (r : Result (List PointValue) Fault) (o : Option (List ℕ)) → las_frame (name, Some bytes) ≡ o

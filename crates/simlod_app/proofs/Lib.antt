@@ -4,4 +4,6 @@ pub mod Files
 pub mod Frames
 pub mod Jobs
 pub mod OctreeOutputs
+pub mod Openings
+pub mod ReadingLaws
 pub mod Readings

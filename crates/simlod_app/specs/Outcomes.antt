@@ -1,22 +1,24 @@
 -- How a run ends: its status, what it wrote, and which counts of the outside account for it.
-use Rattle.std.specs.Prelude.{ℕ, ◌≡◌, ◌⊎◌, List, ◌∷◌, ◌++◌, map, All, Option, IfSome, Result, Ok, Err, IsOk}
+use Rattle.std.specs.Prelude.{ℕ, ◌≡◌, ◌⊎◌, List, ◌∷◌, ◌++◌, Option, Result, Ok, Err, IsOk, ⊤}
 use Rattle.std.specs.Io.KnownBytes.{Appends}
 use Rattle.cloud_io.specs.Counts.{Rose}
-use Rattle.cloud_io.specs.Files.{Folder}
+use Rattle.cloud_io.specs.Files.{Folder, Opened}
 use Rattle.cloud_io.specs.Whole.{AppendsPrefix}
 use Rattle.run_report.specs.Faults.{fault_line}
 use Rattle.run_report.specs.declared.fault.Fault.{Fault}
-use Rattle.run_report.specs.declared.fault.Fault.TheVariants.{Output, ReadFault, Memory}
+use Rattle.run_report.specs.declared.fault.Fault.TheVariants.{Output, ReadFault, TooLong, Memory}
 use Rattle.run_words.specs.Commands.{Text}
 use Rattle.run_words.specs.Values.{JobValue}
 use Rattle.simlod_app.specs.declared.reading.Reading.{Reading}
-use Rattle.simlod_app.specs.Runs.{Source, reading_of, job_here, clouds_of, words_output}
+use Rattle.simlod_app.specs.Runs.{Source, clouds_of, job_here, reading_of, words_output}
+use Rattle.simlod_app.specs.Reads.{AllEnded, AreOpened, AreReadWhole, OfFiles, files_read, job_files}
 use Rattle.simlod_app.specs.Statuses.{status_of}
 use Rattle.simlod_app.specs.declared.status.Status.{Status}
 use Rattle.simlod_app.specs.declared.status.Status.TheVariants as ended
 
--- the outside of a run: the counts of the inputs, and of each stream the bytes, where they are told, and the count
+-- the outside of a run: the opened files and the counts of the inputs, and of each stream the bytes, where they are told, and the count
 pub record Outside : Type 0 where
+  pub opened : Opened
   pub faults : ℕ
   pub missing : ℕ
   pub out : Option (List ℕ)
@@ -25,22 +27,9 @@ pub record Outside : Type 0 where
   pub error_faults : ℕ
 
 -- the outside, by its parts
-abbrev pub outside : ℕ → ℕ → Option (List ℕ) → ℕ → Option (List ℕ) → ℕ → Outside
-outside faults missing out out_faults errors error_faults =
-    record { faults = faults; missing = missing; out = out; out_faults = out_faults; errors = errors; error_faults = error_faults }
-
--- what a file of this name has, as the inputs tell it
-abbrev pub IsSource : Option Folder → Text → Option (List ℕ) → Type 0
-IsSource told name content = IfSome told (λ folder. content ≡ folder name)
-
--- the files of these names, as the inputs tell them
-pub record AreSources (told : Option Folder) (names : List Text) (files : List Source) : Type 0 where
-  pub named : map (λ file. file.0) files ≡ names
-  pub have : All (λ file. IsSource told file.0 file.1) files
-
--- the files of the job of the words
-abbrev pub AreFilesOf : Option Folder → List Text → List Source → Type 0
-AreFilesOf told words files = (j : JobValue) → job_here words ≡ Ok j → AreSources told j.files files
+abbrev pub outside : Opened → ℕ → ℕ → Option (List ℕ) → ℕ → Option (List ℕ) → ℕ → Outside
+outside opened faults missing out out_faults errors error_faults =
+    record { opened = opened; faults = faults; missing = missing; out = out; out_faults = out_faults; errors = errors; error_faults = error_faults }
 
 -- a file of this name stands behind files that are all there and not refused
 pub record IsReached (how : Reading) (files : List Source) (name : Text) : Type 0 where
@@ -96,9 +85,25 @@ abbrev pub IsComplete : (answer : Result (List ℕ) Fault) (old new : Outside) �
 IsComplete answer old new status =
     (Rose old.faults new.faults → ⊥) → (Rose old.out_faults new.out_faults → ⊥) → (status ≡ ended.Memory) ⊎ (status ≡ ended_by answer)
 
--- the run of these words over inputs that tell this folder: its files have something, and it ends as the answer of these files says
-pub record IsRun (told : Option Folder) (words : List Text) (old new : Outside) (status : Status) : Type 0 where
-  pub files : List Source
-  pub are_told : AreFilesOf told words files
+-- how far the files of a run that ends with this status were read, of which these were opened: all of them to their ends at Ok and
+-- OutputFault; none but to its end at a refusal, unless it has too many bytes
+abbrev pub AreReadBy : List Text → (answer : Result (List ℕ) Fault) → Opened → Status → Type 0
+AreReadBy names answer opened ended.Ok = AreReadWhole names opened
+AreReadBy names answer opened ended.OutputFault = AreReadWhole names opened
+AreReadBy names answer opened ended.ReadFault = ⊤
+AreReadBy names answer opened ended.Memory = ⊤
+AreReadBy names answer opened ended.Limit = ((name : Text) × (answer ≡ Err (TooLong name))) ⊎ AllEnded opened
+AreReadBy names answer opened status = AllEnded opened
+
+-- a run of these words over these files ends as their answer says
+pub record EndsOver (words : List Text) (old new : Outside) (status : Status) (files : List Source) : Type 0 where
   pub ends : Ends (IsNextOf words files) (words_output words files) old new status
   pub complete : IsComplete (words_output words files) old new status
+
+-- the run of these words over inputs that tell this folder, if they tell one: the files that it opens are the first of its job, and it
+-- ends as the answer of the bytes that it read says and, where a folder is told, as the answer of what that has
+pub record IsRun (told : Option Folder) (words : List Text) (old new : Outside) (status : Status) : Type 0 where
+  pub opened : Opened
+  pub are : AreOpened told (job_files words) old.opened new.opened opened
+  pub read : AreReadBy (job_files words) (words_output words (files_read (job_files words) opened)) opened status
+  pub ends : OfFiles told (job_files words) opened (EndsOver words old new status)

@@ -1,10 +1,12 @@
-ghost use Rattle.std.specs.Prelude.{◌≡◌, IfErr, List, map, vec_items};
+ghost use Rattle.std.specs.Prelude.{◌≡◌, IfErr, map, vec_items};
 ghost use Rattle.cloud_io.specs.Counts.{Rose};
+ghost use Rattle.cloud_io.specs.Files.{Opened};
 ghost use Rattle.run_report.specs.Faults.{HasAxis};
 ghost use Rattle.run_words.specs.Values.{HasRanges};
 ghost use Rattle.simlod_app.specs.Dues.{Gives, GivesOver};
-ghost use Rattle.simlod_app.specs.Outcomes.{AreSources, IsReached};
-ghost use Rattle.simlod_app.specs.Runs.{Source, job_output, clouds_output, reading_of};
+ghost use Rattle.simlod_app.specs.Outcomes.{IsReached};
+ghost use Rattle.simlod_app.specs.Reads.{AreOpened, AreReadFor, OfFiles};
+ghost use Rattle.simlod_app.specs.Runs.{job_output, clouds_output, reading_of};
 
 use crate::bounds::bounds_output;
 use crate::octree::octree_output;
@@ -20,9 +22,11 @@ pub fn job_output<I: Inputs>(alloc: Global, inputs: &mut I, job: &Job) -> Result
     requires { HasRanges job.now }
     ensures kept { I.files inputs.new ≡ I.files inputs.old }
     ensures axis { IfErr result HasAxis }
-    ensures gives { (files : List Source) × AreSources (I.files inputs.old) job.now.files files
-        × GivesOver (λ name. IsReached (reading_of job.now) files name × Rose (I.faults inputs.old) (I.faults inputs.new)) (Rose (I.missing inputs.old) (I.missing inputs.new))
-        vec_items result (job_output job.now files) }
+    ensures gives { (opened : Opened) × AreOpened (I.files inputs.old) job.now.files (I.opened inputs.old) (I.opened inputs.new) opened
+        × AreReadFor result job.now.files opened
+        × OfFiles (I.files inputs.old) job.now.files opened (λ files.
+        GivesOver (λ name. IsReached (reading_of job.now) files name × Rose (I.faults inputs.old) (I.faults inputs.new)) (Rose (I.missing inputs.old) (I.missing inputs.new))
+        vec_items result (job_output job.now files)) }
 {
     let clouds = read_clouds(alloc, inputs, job.files.as_slice(), reading_of(job))?;
     clouds_output(alloc, clouds, job)

@@ -1,9 +1,11 @@
-ghost use Rattle.std.specs.Prelude.{◌≡◌, IfErr, List, map, string_bytes, vec_items};
+ghost use Rattle.std.specs.Prelude.{◌≡◌, IfErr, map, string_bytes, vec_items};
 ghost use Rattle.cloud_io.specs.Counts.{Rose};
+ghost use Rattle.cloud_io.specs.Files.{Opened};
 ghost use Rattle.run_report.specs.Faults.{HasAxis, fault_line};
 ghost use Rattle.simlod_app.specs.Dues.{GivesOver};
-ghost use Rattle.simlod_app.specs.Outcomes.{AreFilesOf, IsNextOf, IsRun, TellsLine, TellsFault, outside};
-ghost use Rattle.simlod_app.specs.Runs.{Source, words_output};
+ghost use Rattle.simlod_app.specs.Outcomes.{IsNextOf, IsRun, TellsLine, TellsFault, outside};
+ghost use Rattle.simlod_app.specs.Reads.{AreOpened, AreReadFor, OfFiles, job_files};
+ghost use Rattle.simlod_app.specs.Runs.{words_output};
 
 use crate::output::job_output;
 use crate::status::{Status, status_of};
@@ -24,8 +26,8 @@ pub fn simlod_plain<I: Inputs, K: Sink, E: Sink>(
 ) -> Status
     ensures kept { I.files inputs.new ≡ I.files inputs.old }
     ensures run { IsRun (I.files inputs.old) (map string_bytes words.now)
-        (outside (I.faults inputs.old) (I.missing inputs.old) (K.contents out.old) (K.faults out.old) (E.contents errors.old) (E.faults errors.old))
-        (outside (I.faults inputs.new) (I.missing inputs.new) (K.contents out.new) (K.faults out.new) (E.contents errors.new) (E.faults errors.new)) result }
+        (outside (I.opened inputs.old) (I.faults inputs.old) (I.missing inputs.old) (K.contents out.old) (K.faults out.old) (E.contents errors.old) (E.faults errors.old))
+        (outside (I.opened inputs.new) (I.faults inputs.new) (I.missing inputs.new) (K.contents out.new) (K.faults out.new) (E.contents errors.new) (E.faults errors.new)) result }
 {
     match words_output(alloc, words, inputs) {
         Err(fault) => refuse(alloc, &fault, errors),
@@ -47,9 +49,11 @@ fn words_output<I: Inputs>(
 ) -> Result<Vec<u8>, Fault>
     ensures kept { I.files inputs.new ≡ I.files inputs.old }
     ensures axis { IfErr result HasAxis }
-    ensures gives { (files : List Source) × AreFilesOf (I.files inputs.old) (map string_bytes words.now) files
-        × GivesOver (λ name. IsNextOf (map string_bytes words.now) files name × Rose (I.faults inputs.old) (I.faults inputs.new)) (Rose (I.missing inputs.old) (I.missing inputs.new))
-        vec_items result (words_output (map string_bytes words.now) files) }
+    ensures gives { (opened : Opened) × AreOpened (I.files inputs.old) (job_files (map string_bytes words.now)) (I.opened inputs.old) (I.opened inputs.new) opened
+        × AreReadFor result (job_files (map string_bytes words.now)) opened
+        × OfFiles (I.files inputs.old) (job_files (map string_bytes words.now)) opened (λ files.
+        GivesOver (λ name. IsNextOf (map string_bytes words.now) files name × Rose (I.faults inputs.old) (I.faults inputs.new)) (Rose (I.missing inputs.old) (I.missing inputs.new))
+        vec_items result (words_output (map string_bytes words.now) files)) }
 {
     let job = read_job(alloc, words)?;
     job_output(alloc, inputs, &job)

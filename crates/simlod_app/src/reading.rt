@@ -1,11 +1,13 @@
-ghost use Rattle.std.specs.Prelude.{◌≡◌, ◌≤◌, ℕ, IfOk, IfErr, List, Option, Some, None, map, option_map, string_bytes, vec_items};
+ghost use Rattle.std.specs.Prelude.{◌≡◌, ◌≤◌, IfOk, IfErr, Option, Some, None, map, option_map, string_bytes, vec_items};
 ghost use Rattle.cloud_io.specs.Counts.{Rose};
+ghost use Rattle.cloud_io.specs.Files.{Opened, OpenedFile};
 ghost use Rattle.las_points.specs.Fields.{frame};
 ghost use Rattle.las_points.specs.Reading.{las};
 ghost use Rattle.run_report.specs.Faults.{HasAxis};
 ghost use Rattle.simlod_app.specs.Dues.{Gives, GivesOver};
-ghost use Rattle.simlod_app.specs.Outcomes.{AreSources, IsSource, IsReached};
-ghost use Rattle.simlod_app.specs.Runs.{Source, ends_as, is_las, rgb_byte, points_in, or_las_fault, or_xyz_fault, clouds_of, framed_in, beside_frame, frame_step, reading_of};
+ghost use Rattle.simlod_app.specs.Outcomes.{IsReached};
+ghost use Rattle.simlod_app.specs.Reads.{AreOpened, AreReadFor, IsOpened, IsReadFor, OfFile, OfFiles};
+ghost use Rattle.simlod_app.specs.Runs.{ends_as, is_las, rgb_byte, points_in, or_las_fault, or_xyz_fault, clouds_of, framed_in, beside_frame, frame_step, reading_of};
 ghost use Rattle.xyz_points.specs.Reading.{xyz};
 
 use crate::faults;
@@ -62,9 +64,11 @@ pub fn read_clouds<I: Inputs>(
     requires { how.decimals ≤ 9 }
     ensures kept { I.files inputs.new ≡ I.files inputs.old }
     ensures axis { IfErr result HasAxis }
-    ensures gives { (files : List Source) × AreSources (I.files inputs.old) (map string_bytes names.now) files
-        × GivesOver (λ name. IsReached how files name × Rose (I.faults inputs.old) (I.faults inputs.new)) (Rose (I.missing inputs.old) (I.missing inputs.new))
-        (λ clouds. map vec_items clouds.items) result (clouds_of how files) }
+    ensures gives { (opened : Opened) × AreOpened (I.files inputs.old) (map string_bytes names.now) (I.opened inputs.old) (I.opened inputs.new) opened
+        × AreReadFor result (map string_bytes names.now) opened
+        × OfFiles (I.files inputs.old) (map string_bytes names.now) opened (λ files.
+        GivesOver (λ name. IsReached how files name × Rose (I.faults inputs.old) (I.faults inputs.new)) (Rose (I.missing inputs.old) (I.missing inputs.new))
+        (λ clouds. map vec_items clouds.items) result (clouds_of how files)) }
 {
     let mut clouds = Vec::new(alloc);
     let mut first = None;
@@ -114,9 +118,11 @@ fn read_cloud<I: Inputs>(
     ensures kept { I.files inputs.new ≡ I.files inputs.old }
     ensures later { (I.faults inputs.old ≤ I.faults inputs.new) × (I.missing inputs.old ≤ I.missing inputs.new) }
     ensures axis { IfErr result HasAxis }
-    ensures gives { (content : Option (List ℕ)) × IsSource (I.files inputs.old) name.now content
-        × GivesOver (λ failed. (failed ≡ name.now) × Rose (I.faults inputs.old) (I.faults inputs.new)) (Rose (I.missing inputs.old) (I.missing inputs.new))
-        (λ c. (c.points.items, c.frame)) result (framed_in how name.now content) }
+    ensures gives { (file : Option OpenedFile) × IsOpened (I.files inputs.old) name.now (I.opened inputs.old) (I.opened inputs.new) file
+        × IsReadFor result file
+        × OfFile (I.files inputs.old) name.now file (λ content.
+        GivesOver (λ failed. (failed ≡ name.now) × Rose (I.faults inputs.old) (I.faults inputs.new)) (Rose (I.missing inputs.old) (I.missing inputs.new))
+        (λ c. (c.points.items, c.frame)) result (framed_in how name.now content)) }
 {
     let bytes = match read_all(alloc, inputs, name, MOST_BYTES) {
         Ok(bytes) => bytes,

@@ -1,6 +1,7 @@
-use Rattle.std.proofs.Common.{arith, inr, Global, ℕ, ◌+◌, ◌++◌, take, Some, ◌≡◌, ◌∙◌, ap, sym, refl, length}
-use Rattle.cloud_io.proofs.Endings.{err_is, told_unopened, place_unopened, causes_unopened, causes_failed, quiet_ok, quiet_memory, quiet_too_long, others_more}
-use Rattle.cloud_io.proofs.Prefixes.{begun_none, begun_more, begun_whole, begun_long, grown, stands_more}
+use Rattle.std.proofs.Common.{arith, inr, Global, List, ℕ, ◌+◌, ◌++◌, ◌∷◌, [], take, ◌≡◌, ◌∙◌, ap, sym, refl, length}
+use Rattle.cloud_io.proofs.Endings.{err_is, told_unopened, left_unopened, causes_unopened, causes_failed, quiet_ok, quiet_memory, quiet_too_long}
+use Rattle.cloud_io.proofs.Prefixes.{begun_none, begun_more, begun_whole, begun_long, given_begun, given_whole, grown, read_last, read_more, stands}
+use Rattle.cloud_io.specs.Files.{begun}
 use Rattle.cloud_io.proofs.whole.read_all.Goals as goal
 
 -- the file was not opened
@@ -9,10 +10,10 @@ returns-in_err-file-clause-told g c =
     rw (err_is _ _ c.from_residual-in_err-file.ensures.1)
     (told_unopened Global (g.I.Inputs.files c.args.inputs.now) c.args.name.now c.args.most c.in_err-file.field-0.0 c.in_err-file.ensures.agrees)
 
-pub returns-in_err-file-clause-place : goal.returns-in_err-file-clause-place
-returns-in_err-file-clause-place g c =
+pub returns-in_err-file-clause-opened : goal.returns-in_err-file-clause-opened
+returns-in_err-file-clause-opened g c =
     rw (err_is _ _ c.from_residual-in_err-file.ensures.1)
-    (place_unopened Global _ _ _ _ c.in_err-file.field-0.0 c.in_err-file.ensures.opens)
+    (left_unopened Global _ _ _ _ _ c.in_err-file.field-0.0 c.in_err-file.ensures.opens)
 
 pub returns-in_err-file-clause-causes : goal.returns-in_err-file-clause-causes
 returns-in_err-file-clause-causes g c =
@@ -26,25 +27,22 @@ loop-bytes-init g c = record {
   small = omega (arith, c.in_ok-buffer.ensures.len, c.as_mut_slice-piece.ensures.len);
   few = omega (arith, ap length c.new-bytes.ensures.items);
   files = c.in_ok-file.ensures.files;
-  stands = c.in_ok-file.ensures.opens.0 ∙ ap (λ (k : ℕ). Some (c.args.name.now, k)) (sym (ap length c.new-bytes.ensures.items));
-  others = c.in_ok-file.ensures.opens.1;
+  number = c.in_ok-file.ensures.opens.0;
+  behind = c.in_ok-file.ensures.opens.1 ∙ ap (λ (l : List ℕ). g.I.Inputs.opened c.args.inputs.now ++ begun c.args.name.now l ∷ []) (sym c.new-bytes.ensures.items);
   begun = rw c.new-bytes.ensures.items (begun_none (g.I.Inputs.files c.args.inputs.now) c.args.name.now c.in_ok-file.ensures.agrees);
   faults = c.in_ok-file.ensures.causes.faults_calm (λ e. cc);
   missing = c.in_ok-file.ensures.causes.missing_calm (λ e. cc);
 }
 
 -- a read failed
-pub returns-in_err-n-clause-place : goal.returns-in_err-n-clause-place
-returns-in_err-n-clause-place g c =
+pub returns-in_err-n-clause-opened : goal.returns-in_err-n-clause-opened
+returns-in_err-n-clause-opened g c =
+    let kept = c.loop-bytes.invariant in
     rw (err_is _ _ c.from_residual-in_err-n.ensures.1)
     (inr (
-      length c.loop-bytes.bytes.items,
-      c.loop-bytes.invariant.few,
-      record {
-        file = c.in_ok-file.file;
-        stands = c.in_err-n.ensures.moves c.in_ok-file.file ∙ c.loop-bytes.invariant.stands;
-        others = λ k other. c.in_err-n.ensures.moves k ∙ c.loop-bytes.invariant.others k other;
-      },
+      c.loop-bytes.bytes.items,
+      kept.few,
+      record { behind = c.in_err-n.ensures.reads ∙ kept.behind; given = given_begun _ _ _ kept.begun },
     ))
 
 pub returns-in_err-n-clause-causes : goal.returns-in_err-n-clause-causes
@@ -58,16 +56,18 @@ pub returns-then-n-eq0-clause-told : goal.returns-then-n-eq0-clause-told
 returns-then-n-eq0-clause-told g c =
     let kept = c.loop-bytes.invariant in
     begun_whole _ (g.I.Inputs.files c.loop-bytes.inputs) (g.I.Inputs.opened c.loop-bytes.inputs) c.in_ok-file.file _ _
-    c.read.new.buf c.in_ok-n.n kept.files kept.begun kept.stands c.in_ok-n.ensures.gives c.if-n-eq0.true
+    c.read.new.buf c.in_ok-n.n kept.files kept.begun (stands _ _ _ _ kept.behind kept.number) c.in_ok-n.ensures.gives c.if-n-eq0.true
     (omega (arith, kept.room))
 
-pub returns-then-n-eq0-clause-place : goal.returns-then-n-eq0-clause-place
-returns-then-n-eq0-clause-place g c =
+pub returns-then-n-eq0-clause-opened : goal.returns-then-n-eq0-clause-opened
+returns-then-n-eq0-clause-opened g c =
     let kept = c.loop-bytes.invariant in (
       record {
-        file = c.in_ok-file.file;
-        stands = stands_more _ _ _ _ _ c.in_ok-n.n _ kept.stands c.in_ok-n.ensures.moves (omega arith) (omega (arith, kept.few));
-        others = others_more _ _ _ _ kept.others c.in_ok-n.ensures.moves.1;
+        behind = read_last _ _ _ _ c.in_ok-n.n _ _ c.read.new.buf kept.behind kept.number c.in_ok-n.ensures.reads c.if-n-eq0.true (omega (arith, kept.room));
+        given = given_whole (g.I.Inputs.files c.args.inputs.now) c.args.name.now c.loop-bytes.bytes.items
+            (begun_whole _ (g.I.Inputs.files c.loop-bytes.inputs) (g.I.Inputs.opened c.loop-bytes.inputs) c.in_ok-file.file _ _
+            c.read.new.buf c.in_ok-n.n kept.files kept.begun (stands _ _ _ _ kept.behind kept.number) c.in_ok-n.ensures.gives c.if-n-eq0.true
+            (omega (arith, kept.room)));
       },
       kept.few,
     )
@@ -78,10 +78,21 @@ returns-then-n-eq0-clause-causes g c =
     quiet_ok _ _ _ _ _ (c.in_ok-n.ensures.cause.calm ∙ kept.faults) (c.in_ok-n.ensures.missing ∙ kept.missing)
 
 -- there was no memory for what a read gave
-pub returns-in_err-extend_from_slice-clause-place : goal.returns-in_err-extend_from_slice-clause-place
-returns-in_err-extend_from_slice-clause-place g c =
+pub returns-in_err-extend_from_slice-clause-opened : goal.returns-in_err-extend_from_slice-clause-opened
+returns-in_err-extend_from_slice-clause-opened g c =
+    let kept = c.loop-bytes.invariant in
+    let come = c.loop-bytes.bytes.items ++ take c.in_ok-n.n c.read.new.buf in
+    let more = begun_more (g.I.Inputs.files c.args.inputs.now) (g.I.Inputs.files c.loop-bytes.inputs) (g.I.Inputs.opened c.loop-bytes.inputs) c.in_ok-file.file c.args.name.now c.loop-bytes.bytes.items
+    c.read.new.buf come c.in_ok-n.n kept.files kept.begun (stands _ _ _ _ kept.behind kept.number) c.in_ok-n.ensures.bound.0 c.in_ok-n.ensures.gives refl in
     rw (err_is _ _ c.from_residual-in_err-extend_from_slice.ensures.1)
-    (c.in_ok-file.file, others_more _ _ _ _ c.loop-bytes.invariant.others c.in_ok-n.ensures.moves.1)
+    (inr (
+      come,
+      omega (arith, grown come _ _ c.read.new.buf refl c.in_ok-n.ensures.bound.0, c.if-len-n.false, c.len.ensures, c.loop-bytes.bytes.ok.0),
+      record {
+        behind = read_more _ _ _ _ c.in_ok-n.n _ _ c.read.new.buf come kept.behind kept.number c.in_ok-n.ensures.reads c.if-n-eq0.false refl;
+        given = given_begun (g.I.Inputs.files c.args.inputs.now) c.args.name.now come more;
+      },
+    ))
 
 pub returns-in_err-extend_from_slice-clause-causes : goal.returns-in_err-extend_from_slice-clause-causes
 returns-in_err-extend_from_slice-clause-causes g c =
@@ -96,22 +107,22 @@ returns-then-len-n-clause-told g c =
     let come = c.loop-bytes.bytes.items ++ take c.in_ok-n.n c.read.new.buf in
     begun_long (g.I.Inputs.files c.args.inputs.now) c.args.name.now come _
     (begun_more (g.I.Inputs.files c.args.inputs.now) (g.I.Inputs.files c.loop-bytes.inputs) (g.I.Inputs.opened c.loop-bytes.inputs) c.in_ok-file.file c.args.name.now c.loop-bytes.bytes.items
-    c.read.new.buf come c.in_ok-n.n kept.files kept.begun kept.stands c.in_ok-n.ensures.bound.0 c.in_ok-n.ensures.gives refl)
+    c.read.new.buf come c.in_ok-n.n kept.files kept.begun (stands _ _ _ _ kept.behind kept.number) c.in_ok-n.ensures.bound.0 c.in_ok-n.ensures.gives refl)
     (omega (arith, grown come _ _ c.read.new.buf refl c.in_ok-n.ensures.bound.0, c.if-len-n.true, c.len.ensures, c.loop-bytes.bytes.ok.0))
 
-pub returns-then-len-n-clause-place : goal.returns-then-len-n-clause-place
-returns-then-len-n-clause-place g c =
-    let kept = c.loop-bytes.invariant in (
+pub returns-then-len-n-clause-opened : goal.returns-then-len-n-clause-opened
+returns-then-len-n-clause-opened g c =
+    let kept = c.loop-bytes.invariant in
+    let come = c.loop-bytes.bytes.items ++ take c.in_ok-n.n c.read.new.buf in
+    let more = begun_more (g.I.Inputs.files c.args.inputs.now) (g.I.Inputs.files c.loop-bytes.inputs) (g.I.Inputs.opened c.loop-bytes.inputs) c.in_ok-file.file c.args.name.now c.loop-bytes.bytes.items
+    c.read.new.buf come c.in_ok-n.n kept.files kept.begun (stands _ _ _ _ kept.behind kept.number) c.in_ok-n.ensures.bound.0 c.in_ok-n.ensures.gives refl in (
       refl,
       (
-        c.len.result + c.in_ok-n.n,
-        c.if-len-n.true,
+        come,
+        omega (arith, grown come _ _ c.read.new.buf refl c.in_ok-n.ensures.bound.0, c.if-len-n.true, c.len.ensures, c.loop-bytes.bytes.ok.0),
         record {
-          file = c.in_ok-file.file;
-          stands = stands_more _ _ _ _ _ c.in_ok-n.n _ kept.stands c.in_ok-n.ensures.moves
-              (omega (arith, c.len.ensures, c.loop-bytes.bytes.ok.0))
-              (omega (arith, c.len.ensures, c.loop-bytes.bytes.ok.1, c.loop-bytes.bytes.small, kept.small, c.in_ok-n.ensures.bound.0));
-          others = others_more _ _ _ _ kept.others c.in_ok-n.ensures.moves.1;
+          behind = read_more _ _ _ _ c.in_ok-n.n _ _ c.read.new.buf come kept.behind kept.number c.in_ok-n.ensures.reads c.if-n-eq0.false refl;
+          given = given_begun (g.I.Inputs.files c.args.inputs.now) c.args.name.now come more;
         },
       ),
     )
@@ -132,10 +143,10 @@ loop-bytes-preserved g c =
       small = omega (arith, kept.small);
       few = omega (arith, sum, c.if-len-n.false, c.len.ensures, c.loop-bytes.bytes.ok.0);
       files = c.in_ok-n.ensures.files ∙ kept.files;
-      stands = stands_more _ _ _ _ _ c.in_ok-n.n _ kept.stands c.in_ok-n.ensures.moves sum (omega (arith, new.ok.0, new.ok.1, new.small));
-      others = others_more _ _ _ _ kept.others c.in_ok-n.ensures.moves.1;
+      number = kept.number;
+      behind = read_more _ _ _ _ c.in_ok-n.n _ _ c.read.new.buf new.items kept.behind kept.number c.in_ok-n.ensures.reads c.if-n-eq0.false c.in_ok-extend_from_slice.ensures.items;
       begun = begun_more (g.I.Inputs.files c.args.inputs.now) (g.I.Inputs.files c.loop-bytes.inputs) (g.I.Inputs.opened c.loop-bytes.inputs) c.in_ok-file.file c.args.name.now c.loop-bytes.bytes.items
-          c.read.new.buf new.items c.in_ok-n.n kept.files kept.begun kept.stands c.in_ok-n.ensures.bound.0 c.in_ok-n.ensures.gives c.in_ok-extend_from_slice.ensures.items;
+          c.read.new.buf new.items c.in_ok-n.n kept.files kept.begun (stands _ _ _ _ kept.behind kept.number) c.in_ok-n.ensures.bound.0 c.in_ok-n.ensures.gives c.in_ok-extend_from_slice.ensures.items;
       faults = c.in_ok-n.ensures.cause.calm ∙ kept.faults;
       missing = c.in_ok-n.ensures.missing ∙ kept.missing;
     }

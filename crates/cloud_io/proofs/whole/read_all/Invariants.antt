@@ -1,5 +1,5 @@
-use Rattle.std.proofs.Common.{◌≡◌, ◌-◌, ◌^◌, ◌<◌, ◌≤◌, length, Some}
-use Rattle.cloud_io.specs.Files.{SameElsewhere}
+use Rattle.std.proofs.Common.{◌≡◌, ◌-◌, ◌^◌, ◌<◌, ◌≤◌, ◌++◌, ◌∷◌, [], length}
+use Rattle.cloud_io.specs.Files.{begun}
 use Rattle.cloud_io.proofs.Prefixes.{HasBegun}
 use Rattle.cloud_io.proofs.whole.read_all.Given as goal
 
@@ -9,8 +9,8 @@ invariant-loop-bytes g l = record {
   small : length l.piece ≤ 2 ^ 16;
   few : length l.bytes.items ≤ l.most;
   files : g.I.Inputs.files l.inputs ≡ g.I.Inputs.files l.fn.inputs;
-  stands : g.I.Inputs.opened l.inputs l.file ≡ Some (l.name, length l.bytes.items);
-  others : SameElsewhere l.file (g.I.Inputs.opened l.fn.inputs) (g.I.Inputs.opened l.inputs);
+  number : l.file ≡ length (g.I.Inputs.opened l.fn.inputs);
+  behind : g.I.Inputs.opened l.inputs ≡ g.I.Inputs.opened l.fn.inputs ++ begun l.name l.bytes.items ∷ [];
   begun : HasBegun (g.I.Inputs.files l.fn.inputs) l.name l.bytes.items;
   faults : g.I.Inputs.faults l.inputs ≡ g.I.Inputs.faults l.fn.inputs;
   missing : g.I.Inputs.missing l.inputs ≡ g.I.Inputs.missing l.fn.inputs;

@@ -5,4 +5,4 @@ use Rattle.cloud_io.proofs.OpenFiles.{opened_none}
 use Rattle.cloud_io.proofs.sure_inputs.SureInputs.new.Goals as goal
 
 pub returns-clause-opened : goal.returns-clause-opened
-returns-clause-opened c = λ k. ap (λ (l : List OpenFile). opened_of c.new.result.files.items l k) c.new.ensures.opened ∙ opened_none _ k
+returns-clause-opened c = ap (λ (l : List OpenFile). opened_of c.new.result.files.items l) c.new.ensures.opened ∙ opened_none _

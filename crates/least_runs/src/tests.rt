@@ -214,7 +214,7 @@ fn cuts_into_runs_give_the_voxels_of_build(rt: HostRuntime) -> Result<(), Fail> 
     let mut table = CellTable::new(rt.alloc())?;
     let mut dice = Dice::new(2028);
     for side in [2, 8, 40, 256usize] {
-        for _cut in 0..8usize {
+        for _cut in 0..3usize {
             let points = draw(rt.alloc(), &mut dice, 120, side)?;
             let runs = cut_runs(rt.alloc(), &mut table, &mut dice, &points)?;
             let voxels = table.voxels_of(rt.alloc(), &runs)?;

@@ -6,7 +6,6 @@ use Rattle.std.proofs.lemmas.List.{drop_more, drop_all, map-append, length-map, 
 use Rattle.std.proofs.lemmas.List.Elements.{All-append, filter_passes, filter-append}
 use Rattle.cube_math.specs.Points.{PointValue}
 use Rattle.cube_math.specs.Cubes.{CubeValue, contains, child}
-use Rattle.occupancy_grid.specs.Grids.{GridValue}
 use Rattle.octree_model.specs.Numbers.{up_to}
 use Rattle.octree_model.specs.Octree.{inside}
 use Rattle.octree_model.proofs.NumberLaws.{at_up_to, length-up_to}
@@ -16,7 +15,7 @@ use Rattle.batch_levels.specs.declared.level.Level.{Level}
 use Rattle.batch_levels.specs.declared.level.Level.TheVariants.{Leaf, Inner}
 use Rattle.batch_levels.specs.declared.level.InnerLevel.{InnerLevel}
 use Rattle.batch_levels.specs.Growing.{HasRoom}
-use Rattle.batch_levels.specs.Levels.{grid_of, level_of}
+use Rattle.batch_levels.specs.Levels.{level_of}
 use Rattle.batch_levels.proofs.LevelLaws.{node_of, leaf_of, IsInnerOf, inner_of, inner_of_points, is_inner, inside_both, level_both, level_same}
 
 -- one node more
@@ -24,18 +23,13 @@ pub one_more : (F : ℕ → Level) (g : ℕ) (ls ls' : List Level) (l : Level) �
 one_more F g ls ls' l before pushed is =
     rw add-one (pushed ∙ ap (λ (ks : List Level). ks ++ l ∷ []) before ∙ ap (λ x. map F (up_to g) ++ x ∷ []) is ∙ sym (map-append F (up_to g) (g ∷ [])))
 
--- without points there is no key
-pub no_nears : (c : CubeValue) → nears c [] ≡ []
-unfolding nears
-no_nears c = refl
-
 -- an inner node by its parts
-pub inner_made : (leaf : ℕ) (c : CubeValue) (ps : List PointValue) (n g : ℕ) (grid : GridValue) (best : List NearValue) (ls : List Level) → All (λ p. IsTrue (contains c p)) ps → leaf < length ps → 7 < c.bits
-    → n ≡ length ps → grid ≡ grid_of c ps → best ≡ nears c ps → g ≡ 8 → ls ≡ map (λ k. level_of leaf (child c k) ps) (up_to g)
-    → Inner record { count = n; grid = grid; best = best; levels = ls } ≡ level_of leaf c ps
-inner_made leaf c ps n g grid best ls h more high counted gridded keyed end made =
+pub inner_made : (leaf : ℕ) (c : CubeValue) (ps : List PointValue) (n g : ℕ) (runs : List NearValue) (ls : List Level) → All (λ p. IsTrue (contains c p)) ps → leaf < length ps → 7 < c.bits
+    → n ≡ length ps → runs ≡ nears c ps → g ≡ 8 → ls ≡ map (λ k. level_of leaf (child c k) ps) (up_to g)
+    → Inner record { count = n; runs = runs; levels = ls } ≡ level_of leaf c ps
+inner_made leaf c ps n g runs ls h more high counted keyed end made =
     let all : ls ≡ map (λ k. level_of leaf (child c k) ps) (up_to 8) = made ∙ ap (λ k. map (λ k. level_of leaf (child c k) ps) (up_to k)) end in
-    (λ i. Inner record { count = counted i; grid = gridded i; best = keyed i; levels = all i }) ∙ inner_of_points leaf c ps h more high
+    (λ i. Inner record { count = counted i; runs = keyed i; levels = all i }) ∙ inner_of_points leaf c ps h more high
 
 -- ---- a leaf
 pub leaf_before : (leaf : ℕ) (c : CubeValue) (before kept : List PointValue) (level : Level) → level ≡ level_of leaf c before → level ≡ Leaf kept → kept ≡ inside c before
@@ -114,18 +108,18 @@ one_grown leaf c c' before points part g after rest pushed smaller within half p
     inside_part k ps qs = inside_both k ps (inside k qs) (filter_passes (contains k) qs) ∙ sym (filter-append (contains k) ps qs)
 
 -- all of them have grown
-pub grown_inner : (leaf : ℕ) (c : CubeValue) (before points : List PointValue) (n : InnerLevel) (g m : ℕ) (grid : GridValue) (best : List NearValue) (ls : List Level) → IsInnerOf leaf c before n → All (λ p. IsTrue (contains c p)) points
-    → m ≡ n.count + length points → grid ≡ grid_of c (inside c before ++ points) → best ≡ nears c (inside c before ++ points) → g ≡ 8
+pub grown_inner : (leaf : ℕ) (c : CubeValue) (before points : List PointValue) (n : InnerLevel) (g m : ℕ) (runs : List NearValue) (ls : List Level) → IsInnerOf leaf c before n → All (λ p. IsTrue (contains c p)) points
+    → m ≡ n.count + length points → runs ≡ nears c (inside c before ++ points) → g ≡ 8
     → ls ≡ drop g (old_below leaf c before) ++ new_below leaf c before points g
-    → Inner record { count = m; grid = grid; best = best; levels = ls } ≡ level_of leaf c (before ++ points)
-grown_inner leaf c before points n g m grid best ls inner h counted gridded keyed end half =
+    → Inner record { count = m; runs = runs; levels = ls } ≡ level_of leaf c (before ++ points)
+grown_inner leaf c before points n g m runs ls inner h counted keyed end half =
     let q : List PointValue = inside c before ++ points in
     let all : ls ≡ new_below leaf c before points 8 =
     half ∙ (λ i. drop (end i) (old_below leaf c before) ++ new_below leaf c before points (end i))
     ∙ ap (λ (ks : List Level). ks ++ new_below leaf c before points 8) (drop_all 8 (old_below leaf c before) (omega (arith, eight_below leaf c before))) in
     let many : m ≡ length q = omega (arith, counted, ap (λ (k : InnerLevel). k.count) inner.is, length-append (inside c before) points) in
     let whole : inside c (before ++ points) ≡ q = inside_both c before points h in
-    (λ i. Inner record { count = many i; grid = gridded i; best = keyed i; levels = all i })
+    (λ i. Inner record { count = many i; runs = keyed i; levels = all i })
     ∙ ap (λ (xs : List PointValue). Inner (node_of leaf c xs)) (sym whole)
     ∙ sym (is_inner leaf c (before ++ points) (omega (arith, ap length whole, length-append (inside c before) points, inner.more)) inner.splits)
 

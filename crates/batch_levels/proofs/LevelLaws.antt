@@ -13,7 +13,7 @@ use Rattle.batch_levels.specs.declared.level.Level.{out-Level, out-roll-Level}
 use Rattle.batch_levels.specs.declared.level.Level.TheOpen.{Level-F}
 use Rattle.batch_levels.specs.declared.level.Level.TheVariants.{Leaf, Inner, rolls-Leaf, rolls-Inner}
 use Rattle.batch_levels.specs.declared.level.InnerLevel.{InnerLevel}
-use Rattle.batch_levels.specs.Levels.{grid_of, level_at, level_of}
+use Rattle.batch_levels.specs.Levels.{level_at, level_of}
 
 out-Leaf : (ps : List PointValue) → out-Level (Leaf ps) ≡ Level-F.Leaf ps
 out-Leaf ps = ap out-Level (sym (rolls-Leaf ps)) ∙ out-roll-Level (Level-F.Leaf ps)
@@ -42,7 +42,7 @@ level_same leaf c ps qs e = level_at-same leaf (c.bits - 7) c ps qs e
 
 -- the inner node of points in its cube
 abbrev pub node_of : ℕ → CubeValue → List PointValue → InnerLevel
-node_of leaf c q = record { count = length q; grid = grid_of c q; best = nears c q; levels = map (λ g. level_of leaf (child c g) q) (up_to 8) }
+node_of leaf c q = record { count = length q; runs = nears c q; levels = map (λ g. level_of leaf (child c g) q) (up_to 8) }
 
 leaf_at : (leaf depth : ℕ) (c : CubeValue) (ps : List PointValue) → (length (inside c ps) ≤ leaf) ⊎ (depth ≡ 0) → level_at leaf depth c ps ≡ Leaf (inside c ps)
 unfolding level_at
@@ -52,13 +52,13 @@ leaf_at leaf (suc depth) c ps h =
     rw (le-leb _ _ few) refl
 
 inner_at : (leaf depth below : ℕ) (c : CubeValue) (ps : List PointValue) → leaf < length (inside c ps) → depth ≡ suc below
-    → level_at leaf depth c ps ≡ Inner record { count = length (inside c ps); grid = grid_of c (inside c ps); best = nears c (inside c ps); levels = map (λ g. level_at leaf below (child c g) (inside c ps)) (up_to 8) }
+    → level_at leaf depth c ps ≡ Inner record { count = length (inside c ps); runs = nears c (inside c ps); levels = map (λ g. level_at leaf below (child c g) (inside c ps)) (up_to 8) }
 unfolding level_at
 inner_at leaf zero below c ps more d = absurd (omega arith)
 inner_at leaf (suc depth) below c ps more d =
     let same : depth ≡ below = omega arith in
     let q : List PointValue = inside c ps in
-    rw (lt-leb _ _ more) (ap (λ k. Inner record { count = length q; grid = grid_of c q; best = nears c q; levels = map (λ g. level_at leaf k (child c g) q) (up_to 8) }) same)
+    rw (lt-leb _ _ more) (ap (λ k. Inner record { count = length q; runs = nears c q; levels = map (λ g. level_at leaf k (child c g) q) (up_to 8) }) same)
 
 pub is_leaf : (leaf : ℕ) (c : CubeValue) (ps : List PointValue) → (length (inside c ps) ≤ leaf) ⊎ (c.bits ≤ 7) → level_of leaf c ps ≡ Leaf (inside c ps)
 is_leaf leaf c ps h = leaf_at leaf (c.bits - 7) c ps (elim h [ inl l ↦ inl l | inr low ↦ inr (omega arith) ])

@@ -1,6 +1,6 @@
 pub mod AddLaws
 pub mod GrownLaws
 pub mod LevelLaws
-pub mod SampleLaws
+pub mod NodeRunLaws
 pub mod ShownLaws
 pub mod SpillLaws

@@ -16,14 +16,14 @@ use Rattle.batch_levels.specs.declared.level.Level.TheVariants.{Leaf, Inner, rol
 use Rattle.batch_levels.specs.declared.level.InnerLevel.{InnerLevel}
 use Rattle.batch_levels.specs.Levels.{level_at, level_of}
 use Rattle.batch_levels.specs.Shown.{shown, shown_level, shown_inner}
-use Rattle.batch_levels.proofs.SampleLaws.{voxels_of_nears}
+use Rattle.least_runs.proofs.RunLaws.{voxels_of_nears}
 
 shown-Leaf : (ps : List PointValue) → shown (Leaf ps) ≡ tree.Leaf ps
 shown-Leaf ps = ap shown (sym (rolls-Leaf ps)) ∙ fold-roll-Level Tree InnerNode shown_level shown_inner (Level-F.Leaf ps)
 
-shown-Inner : (n : InnerLevel) → shown (Inner n) ≡ tree.Inner record { count = n.count; voxels = map voxel_of n.best; trees = map shown n.levels }
+shown-Inner : (n : InnerLevel) → shown (Inner n) ≡ tree.Inner record { count = n.count; voxels = map voxel_of n.runs; trees = map shown n.levels }
 shown-Inner n = ap shown (sym (rolls-Inner n)) ∙ fold-roll-Level Tree InnerNode shown_level shown_inner (Level-F.Inner n)
-    ∙ ap tree.Inner (fold-roll-InnerLevel Tree InnerNode shown_level shown_inner record { count = n.count; grid = n.grid; best = n.best; levels = n.levels })
+    ∙ ap tree.Inner (fold-roll-InnerLevel Tree InnerNode shown_level shown_inner record { count = n.count; runs = n.runs; levels = n.levels })
 
 all_shown : (F : ℕ → Level) (G : ℕ → Tree) (ks : List ℕ) → ((g : ℕ) → shown (F g) ≡ G g) → map shown (map F ks) ≡ map G ks
 all_shown F G [] h = refl

@@ -1,27 +1,21 @@
 -- What is kept of an octree for the batches to come.
 use Rattle.std.specs.Prelude.{ℕ, ◌≡◌, zero, suc, ◌-◌, ◌<◌, ◌^◌, List, length, map, nat_le, if◌then◌else◌}
 use Rattle.cube_math.specs.Points.{PointValue}
-use Rattle.cube_math.specs.Cubes.{CubeValue, cell, child}
+use Rattle.cube_math.specs.Cubes.{CubeValue, child}
 use Rattle.leaf_counts.specs.Skeletons.{SkeletonValue, skeleton_of}
-use Rattle.occupancy_grid.specs.Grids.{GridValue}
-use Rattle.occupancy_grid.specs.Pages.{page_of}
-use Rattle.octree_model.specs.Numbers.{up_to, ascending}
+use Rattle.octree_model.specs.Numbers.{up_to}
 use Rattle.octree_model.specs.Octree.{inside}
 use Rattle.voxel_sampler.specs.Nears.{nears}
 use Rattle.batch_levels.specs.declared.level.Level.{Level, Leaf, Inner}
 
--- the grid of points: their cells, and the pages of these
-abbrev pub grid_of : CubeValue → List PointValue → GridValue
-grid_of c ps = record { cells = ascending (map (cell c) ps); pages = ascending (map page_of (map (cell c) ps)) }
-
 -- what is kept of points with at most so many splits above one another: where few points lie in the cube these points,
--- and else their number, their grid, the least keys of their cells, and what is kept of them in each octant
+-- and else their number, the least keys of their cells, and what is kept of them in each octant
 unfoldable pub level_at : ℕ → ℕ → CubeValue → List PointValue → Level
 level_at leaf zero c ps = Leaf (inside c ps)
 level_at leaf (suc depth) c ps =
     let q = inside c ps in
     if nat_le (length q) leaf then Leaf q
-    else Inner record { count = length q; grid = grid_of c q; best = nears c q; levels = map (λ g. level_at leaf depth (child c g) q) (up_to 8) }
+    else Inner record { count = length q; runs = nears c q; levels = map (λ g. level_at leaf depth (child c g) q) (up_to 8) }
 
 -- what is kept with a leaf limit: a cube of 7 bits has no inner node
 abbrev pub level_of : ℕ → CubeValue → List PointValue → Level

@@ -14,7 +14,7 @@ shown_level (Level-F.Inner n) = Inner n
 
 -- an inner node: its count, its cells with the colours of their least keys, and the trees that the nodes below show
 abbrev pub shown_inner : InnerLevel-F Tree InnerNode → InnerNode
-shown_inner n = record { count = n.count; voxels = map voxel_of n.best; trees = n.levels }
+shown_inner n = record { count = n.count; voxels = map voxel_of n.runs; trees = n.levels }
 
 -- the octree that a node and those below it show
 abbrev pub shown : Level → Tree

@@ -5,17 +5,17 @@ ghost use Rattle.batch_levels.specs.Growing.{HasRoom};
 ghost use Rattle.batch_levels.specs.Levels.{level_of};
 
 use crate::level::{InnerLevel, Level};
-use crate::sampling::sample;
+use crate::node_runs::NodeRuns;
 use cube_math::{Cube, Point};
-use occupancy_grid::Grid;
+use least_runs::CellTable;
 use octree_plain::spread;
 use sqlite_items::Items;
 use std::alloc::{AllocError, Global};
-use voxel_sampler::Best;
 
 /// A node of these points, split as often as they need.
 pub(crate) fn made(
     alloc: Global,
+    table: &mut CellTable,
     points: Items<Point>,
     cube: Cube,
     leaf: u32,
@@ -28,29 +28,29 @@ pub(crate) fn made(
         return Ok(Level::Leaf(points));
     }
     let count = points.len() as u32;
-    let mut grid = Grid::new(alloc)?;
-    let mut best = Best::new(alloc);
-    sample(alloc, &mut grid, &mut best, &cube, points.as_slice())?;
+    let run = table.run_of(alloc, &cube, points.as_slice())?;
+    let runs = NodeRuns::of(alloc, run)?;
     let lists = spread(alloc, &cube, points.as_slice())?;
     drop(points);
     let mut levels = Vec::with_capacity(alloc, 8)?;
     let mut g = 0u8;
     for list in lists {
-        levels.push(made(alloc, Items::from_vec(list), cube.child(g), leaf)?)?;
+        let points = Items::from_vec(list);
+        levels.push(made(alloc, table, points, cube.child(g), leaf)?)?;
         g += 1;
     }
     Ok(Level::Inner(InnerLevel {
         count,
-        grid,
-        best,
+        runs,
         levels: Items::from_vec(levels),
     }))
 }
 
-/// The node once a batch's points in its cube have come: each inner node on their way has them in its
-/// sample, and a leaf that gets too many points is split.
+/// The node once a batch's points in its cube have come: each inner node on their way gets
+/// their run, and a leaf that gets too many points is split.
 pub(crate) fn grown(
     alloc: Global,
+    table: &mut CellTable,
     level: Level,
     points: &[Point],
     cube: Cube,
@@ -66,29 +66,29 @@ pub(crate) fn grown(
     match level {
         Level::Leaf(mut kept) => {
             kept.append(Items::from_slice(alloc, points)?)?;
-            made(alloc, kept, cube, leaf)
+            made(alloc, table, kept, cube, leaf)
         }
         Level::Inner(inner) => {
             let InnerLevel {
                 count,
-                mut grid,
-                mut best,
+                mut runs,
                 mut levels,
             } = inner;
-            sample(alloc, &mut grid, &mut best, &cube, points)?;
+            let run = table.run_of(alloc, &cube, points)?;
+            runs.add(alloc, table, run)?;
             let lists = spread(alloc, &cube, points)?;
             let mut g = 0u8;
             for list in lists {
                 // The nodes below are taken from the front and come back at the end, so that after
                 // eight of them they stand in their order.
                 let below = levels.remove(0);
-                levels.push(grown(alloc, below, list.as_slice(), cube.child(g), leaf)?)?;
+                let points = list.as_slice();
+                levels.push(grown(alloc, table, below, points, cube.child(g), leaf)?)?;
                 g += 1;
             }
             Ok(Level::Inner(InnerLevel {
                 count: count + points.len() as u32,
-                grid,
-                best,
+                runs,
                 levels,
             }))
         }

@@ -1,9 +1,8 @@
 ghost use Rattle.std.specs.Prelude.{◌≡◌};
 
+use crate::node_runs::NodeRuns;
 use cube_math::Point;
-use occupancy_grid::Grid;
 use sqlite_items::Items;
-use voxel_sampler::Best;
 
 /// A node with what is kept of it for the batches to come, and the nodes below it.
 #[cycle(level)]
@@ -14,14 +13,13 @@ pub enum Level {
     Inner(InnerLevel),
 }
 
-/// An inner node: how many points lie in its cube, the cells in which they fall with the least key of
-/// each, and the eight nodes below in order of octants.
+/// An inner node: how many points lie in its cube, the runs of their least keys, and the eight nodes below in
+/// order of octants.
 #[cycle(level)]
 #[derive(Drop)]
 pub struct InnerLevel {
     pub(crate) count: u32,
-    pub(crate) grid: Grid,
-    pub(crate) best: Best,
+    pub(crate) runs: NodeRuns,
     pub(crate) levels: Items<Level>,
 }
 
@@ -33,18 +31,11 @@ impl InnerLevel {
         self.count
     }
 
-    /// The cells in which the points fall.
-    pub fn grid(&self) -> &Grid
-        ensures { result.now ≡ self.now.grid }
+    /// The runs of the points.
+    pub fn runs(&self) -> &NodeRuns
+        ensures { result.now ≡ self.now.runs }
     {
-        &self.grid
-    }
-
-    /// The least key of each cell.
-    pub fn best(&self) -> &Best
-        ensures { result.now ≡ self.now.best }
-    {
-        &self.best
+        &self.runs
     }
 
     /// The eight nodes below, by octant.

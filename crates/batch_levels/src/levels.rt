@@ -11,12 +11,13 @@ use crate::level::Level;
 use crate::spilling::spills_of;
 use cube_math::{Batch, Cube};
 use leaf_counts::{PlanRefusal, Skeleton};
+use least_runs::CellTable;
 use sqlite_items::Items;
 use std::alloc::{AllocError, Global};
 use std::marker::Model;
 
-/// An octree kept batch by batch: its skeleton, the points of its leaves, and the samples of its inner
-/// nodes. It is there to measure what batches cost, and to be compared with the octree of all points.
+/// An octree kept batch by batch: its skeleton, the points of its leaves, and the runs of its inner nodes,
+/// with the table by which these are made. It is there to measure what batches cost, and to be compared with the octree of all points.
 #[derive(Drop)]
 pub struct Levels {
     skeleton: Skeleton,
@@ -24,6 +25,7 @@ pub struct Levels {
     leaf: u32,
     total: u32,
     root: Level,
+    table: CellTable,
 }
 
 impl Model for Levels {
@@ -56,6 +58,7 @@ impl Levels {
             leaf,
             total: 0,
             root: Level::Leaf(Items::new(alloc)),
+            table: CellTable::new(alloc)?,
         })
     }
 
@@ -95,12 +98,13 @@ impl Levels {
             leaf,
             total,
             root,
+            mut table,
         } = self;
         let paths = skeleton.overfull(alloc, batch)?;
         let spills = spills_of(alloc, &root, paths.as_slice())?;
         let plan = skeleton.plan(alloc, batch, spills.as_slice(), most)?;
         drop(spills);
-        let root = grown(alloc, root, batch.points(), cube, leaf)?;
+        let root = grown(alloc, &mut table, root, batch.points(), cube, leaf)?;
         skeleton.commit(plan);
         Ok(Levels {
             skeleton,
@@ -108,6 +112,7 @@ impl Levels {
             leaf,
             total: total + batch.points().len() as u32,
             root,
+            table,
         })
     }
 }

@@ -5,6 +5,7 @@ use crate::{InnerLevel, Level, Levels};
 use cube_math::{Batch, Cube, Path, Point};
 use dice::Dice;
 use leaf_counts::PlanRefusal;
+use least_runs::CellTable;
 use octree_plain::{InnerNode, Tree, build};
 use std::alloc::{AllocError, Global};
 use std::test::Fail;
@@ -117,22 +118,27 @@ fn octree_of(alloc: Global, points: &[Point], cube: Cube, leaf: u32) -> Result<T
     Ok(build(alloc, points, cube, leaf)?)
 }
 
-/// Whether an inner node has the count and the voxels of the octree's, and as many cells in its grid.
-fn is_same_inner(inner: &InnerLevel, node: &InnerNode) -> bool {
-    let nears = inner.best().list();
-    let voxels = node.voxels();
-    u64::from(inner.count()) == node.count()
-        && inner.grid().count() as usize == voxels.len()
-        && nears.len() == voxels.len()
-        && nears
-            .iter()
-            .zip(voxels)
-            .all(|(near, voxel)| near.voxel() == *voxel)
+/// Whether an inner node has the count and the voxels of the octree's.
+fn is_same_inner(
+    alloc: Global,
+    table: &mut CellTable,
+    inner: &InnerLevel,
+    node: &InnerNode,
+) -> Result<bool, AllocError> {
+    let voxels = inner.runs().voxels(alloc, table)?;
+    Ok(u64::from(inner.count()) == node.count() && voxels.as_slice() == node.voxels())
 }
 
 /// How many nodes a node of the levels has with those below it, or None where one of them is not as in
 /// the octree: its role, its count here or in the skeleton, a voxel, or a point of a leaf.
-fn agreeing_nodes(levels: &Levels, level: &Level, tree: &Tree, path: Path) -> Option<u32> {
+fn agreeing_nodes(
+    alloc: Global,
+    table: &mut CellTable,
+    levels: &Levels,
+    level: &Level,
+    tree: &Tree,
+    path: Path,
+) -> Option<u32> {
     match (level, tree) {
         (Level::Leaf(kept), Tree::Leaf(leaf)) => {
             let is_same = kept.as_slice() == leaf.points()
@@ -141,7 +147,8 @@ fn agreeing_nodes(levels: &Levels, level: &Level, tree: &Tree, path: Path) -> Op
         }
         (Level::Inner(inner), Tree::Inner(node)) => {
             let counted = levels.skeleton().count(&path) == Some(node.count());
-            if !counted || !is_same_inner(inner, node) || inner.levels().len() != 8 {
+            let same = is_same_inner(alloc, table, inner, node).ok()?;
+            if !counted || !same || inner.levels().len() != 8 {
                 return None;
             }
             let mut nodes = 1u32;
@@ -150,7 +157,8 @@ fn agreeing_nodes(levels: &Levels, level: &Level, tree: &Tree, path: Path) -> Op
                     return None;
                 }
                 let tree = node.trees().get(g)?;
-                let more = agreeing_nodes(levels, below, tree, path.child(g as u8))?;
+                let path = path.child(g as u8);
+                let more = agreeing_nodes(alloc, table, levels, below, tree, path)?;
                 nodes = nodes.wrapping_add(more);
             }
             Some(nodes)
@@ -184,6 +192,7 @@ fn with_batch(
 #[test]
 fn batches_give_the_octree_of_all_points(rt: HostRuntime) -> Result<(), Fail> {
     let mut dice = Dice::new(2026);
+    let mut table = CellTable::new(rt.alloc())?;
     let mut nodes = 0u32;
     for row in &ROWS {
         let cube = Cube::new(0, 0, 0, row.bits).ok_or("fits")?;
@@ -197,7 +206,9 @@ fn batches_give_the_octree_of_all_points(rt: HostRuntime) -> Result<(), Fail> {
             all.extend_from_slice(&points)?;
             levels = with_batch(levels, rt.alloc(), &cube, points)?;
             let tree = octree_of(rt.alloc(), &all, cube, row.leaf)?;
-            let agreeing = agreeing_nodes(&levels, levels.root(), &tree, Path::root());
+            let root = levels.root();
+            let agreeing =
+                agreeing_nodes(rt.alloc(), &mut table, &levels, root, &tree, Path::root());
             assert_eq!(rt; agreeing, Some(levels.skeleton().nodes()));
             assert_eq!(rt; levels.total() as usize, all.len());
         }

@@ -24,7 +24,8 @@ pub fn made<R: CpuClock + AllocGlobal>(
         let start = now(rt)?;
         let levels = levels_of(rt.alloc(), batches.as_slice(), cube, task.leaf)?;
         let took = now(rt)?.saturating_sub(start);
-        Ok((of_level(levels.root()), took))
+        let tally = of_level(rt.alloc(), levels.root());
+        Ok((tally.ok().ok_or("out of memory")?, took))
     } else {
         let start = now(rt)?;
         let tree = build(rt.alloc(), points, cube, task.leaf)

@@ -1,5 +1,7 @@
 use batch_levels::Level;
+use least_runs::CellTable;
 use octree_plain::Tree;
+use std::alloc::{AllocError, Global};
 
 /// How much was made: so many points in the leaves, nodes, and voxels.
 #[derive(Clone, Copy)]
@@ -32,10 +34,11 @@ impl Tally {
 }
 
 /// The tally of levels.
-pub fn of_level(root: &Level) -> Tally {
+pub fn of_level(alloc: Global, root: &Level) -> Result<Tally, AllocError> {
     let mut tally = Tally::new();
-    add_level(&mut tally, root);
-    tally
+    let mut table = CellTable::new(alloc)?;
+    add_level(alloc, &mut table, &mut tally, root)?;
+    Ok(tally)
 }
 
 /// The tally of an octree.
@@ -45,16 +48,23 @@ pub fn of_tree(root: &Tree) -> Tally {
     tally
 }
 
-fn add_level(tally: &mut Tally, level: &Level) {
+fn add_level(
+    alloc: Global,
+    table: &mut CellTable,
+    tally: &mut Tally,
+    level: &Level,
+) -> Result<(), AllocError> {
     match level {
         Level::Leaf(points) => tally.leaf(points.len()),
         Level::Inner(node) => {
-            tally.inner(node.best().list().len());
+            let voxels = node.runs().voxels(alloc, table)?;
+            tally.inner(voxels.len());
             for below in node.levels() {
-                add_level(tally, below);
+                add_level(alloc, table, tally, below)?;
             }
         }
     }
+    Ok(())
 }
 
 fn add_tree(tally: &mut Tally, tree: &Tree) {

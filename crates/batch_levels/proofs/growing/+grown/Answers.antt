@@ -6,7 +6,8 @@ use Rattle.cube_math.specs.Points.{PointValue}
 use Rattle.octree_model.specs.Octree.{inside}
 use Rattle.octree_model.proofs.ShapeLaws.{few_inside}
 use Rattle.octree_plain.proofs.Children.{next_child, no_child, NextChild}
-use Rattle.voxel_sampler.specs.Nears.{nears}
+use Rattle.least_runs.proofs.RunLaws.{nears_of_both}
+use Rattle.voxel_sampler.specs.Nears.{NearValue, least_nears, nears}
 use Rattle.batch_levels.specs.declared.level.InnerLevel.{InnerLevel}
 use Rattle.batch_levels.specs.declared.level.Level.{Level}
 use Rattle.batch_levels.specs.Levels.{level_of}
@@ -30,13 +31,8 @@ returns-in_ok-append-in-Leaf t c =
     (λ after made. grown_leaf c.args.leaf c.args.cube before c.in-Leaf.kept c.args.points.now c.append.new.self after (leaf_before c.args.leaf c.args.cube before c.in-Leaf.kept c.args.level is c.in-Leaf.is)
     (c.in_ok-append-in-Leaf.ensures ∙ ap (λ (ps : List PointValue). c.in-Leaf.kept ++ ps) c.in_ok-from_slice-in-Leaf.ensures) made) c.made.ensures
 
-pub sample-requires-clause-splits : goal.sample-requires-clause-splits
-sample-requires-clause-splits t c = (inner_before c.args.leaf c.args.cube c.requires.room.points c.in-Inner.inner c.args.level c.requires.room.is c.in-Inner.is).splits
-
-pub sample-requires-clause-sampled : goal.sample-requires-clause-sampled
-sample-requires-clause-sampled t c =
-    let inner : IsInnerOf c.args.leaf c.args.cube c.requires.room.points c.in-Inner.inner = inner_before c.args.leaf c.args.cube c.requires.room.points c.in-Inner.inner c.args.level c.requires.room.is c.in-Inner.is in
-    (inside c.args.cube c.requires.room.points, ap (λ (n : InnerLevel). n.grid) inner.is, ap (λ (n : InnerLevel). n.best) inner.is)
+pub run_of-requires-clause-splits : goal.run_of-requires-clause-splits
+run_of-requires-clause-splits t c = (inner_before c.args.leaf c.args.cube c.requires.room.points c.in-Inner.inner c.args.level c.requires.room.is c.in-Inner.is).splits
 
 pub spread-requires-clause-splits : goal.spread-requires-clause-splits
 spread-requires-clause-splits t c = (inner_before c.args.leaf c.args.cube c.requires.room.points c.in-Inner.inner c.args.level c.requires.room.is c.in-Inner.is).splits
@@ -63,12 +59,12 @@ grown-requires t c =
     let n : NextChild vec_items c.args.cube c.args.points.now c.loop-list.g c.in-Some.list c.next.new.self.rest.items = next_child vec_items c.args.cube c.args.points.now c.loop-list.g _ _ _ c.loop-list.invariant.rest c.in-Some.ensures.steps.0 in
     let inner : IsInnerOf c.args.leaf c.args.cube before c.in-Inner.inner = inner_before c.args.leaf c.args.cube before c.in-Inner.inner c.args.level c.requires.room.is c.in-Inner.is in
     let d : c.child.result.bits ≡ c.args.cube.bits - 1 = ap (λ (x : CubeValue). x.bits) c.child.ensures in
-    let part : c.as_slice.result.now ≡ inside (child c.args.cube c.loop-list.g) c.args.points.now = c.as_slice.ensures.value ∙ n.is in
+    let part : c.as_slice-points.result.now ≡ inside (child c.args.cube c.loop-list.g) c.args.points.now = c.as_slice-points.ensures.value ∙ n.is in
     let here : c.remove-below.result ≡ level_of c.args.leaf (child c.args.cube c.loop-list.g) (inside c.args.cube before) =
     front_is _ _ _ c.loop-list.levels (in_front c.args.leaf c.args.cube before c.loop-list.g (new_below c.args.leaf c.args.cube before c.args.points.now c.loop-list.g) c.loop-list.levels n.below (c.loop-list.invariant.grown before c.requires.room.is)) c.remove-below.ensures.item in (
       omega (arith, d, inner.splits),
       (
-        child_room c.args.leaf c.args.cube c.child.result before c.args.points.now c.as_slice.result.now c.loop-list.g c.remove-below.result c.child.ensures here part c.requires.room.few,
+        child_room c.args.leaf c.args.cube c.child.result before c.args.points.now c.as_slice-points.result.now c.loop-list.g c.remove-below.result c.child.ensures here part c.requires.room.few,
         rw (part, c.child.ensures) (filter_passes (contains (child c.args.cube c.loop-list.g)) c.args.points.now),
       ),
     )
@@ -76,7 +72,7 @@ grown-requires t c =
 pub loop-list-preserved : goal.loop-list-preserved
 loop-list-preserved t c =
     let n : NextChild vec_items c.args.cube c.args.points.now c.loop-list.g c.in-Some.list c.next.new.self.rest.items = next_child vec_items c.args.cube c.args.points.now c.loop-list.g _ _ _ c.loop-list.invariant.rest c.in-Some.ensures.steps.0 in
-    let part : c.as_slice.result.now ≡ inside (child c.args.cube c.loop-list.g) c.args.points.now = c.as_slice.ensures.value ∙ n.is in
+    let part : c.as_slice-points.result.now ≡ inside (child c.args.cube c.loop-list.g) c.args.points.now = c.as_slice-points.ensures.value ∙ n.is in
     record {
       below = omega (arith, n.below);
       rest = n.left;
@@ -85,7 +81,7 @@ loop-list-preserved t c =
           let front : c.loop-list.levels ≡ level_of c.args.leaf (child c.args.cube c.loop-list.g) (inside c.args.cube before) ∷ (drop (c.loop-list.g + 1) (old_below c.args.leaf c.args.cube before) ++ done) =
           in_front c.args.leaf c.args.cube before c.loop-list.g done c.loop-list.levels n.below (c.loop-list.invariant.grown before is) in
           let here : c.remove-below.result ≡ level_of c.args.leaf (child c.args.cube c.loop-list.g) (inside c.args.cube before) = front_is _ _ _ c.loop-list.levels front c.remove-below.ensures.item in
-          one_grown c.args.leaf c.args.cube c.child.result before c.args.points.now c.as_slice.result.now c.loop-list.g c.in_ok-grown-in-Inner.field-0 c.remove-below.new.self c.push.new.self c.child.ensures part
+          one_grown c.args.leaf c.args.cube c.child.result before c.args.points.now c.as_slice-points.result.now c.loop-list.g c.in_ok-grown-in-Inner.field-0 c.remove-below.new.self c.push.new.self c.child.ensures part
           (front_gone _ _ c.loop-list.levels c.remove-below.new.self front c.remove-below.ensures.rest) c.in_ok-push-in-Inner.ensures.ok
           (c.in_ok-grown-in-Inner.ensures (inside c.args.cube before) (here ∙ ap (λ (k : CubeValue). level_of c.args.leaf k (inside c.args.cube before)) (sym c.child.ensures)));
     }
@@ -102,8 +98,7 @@ returns-in-None t c =
     let inner : IsInnerOf c.args.leaf c.args.cube before c.in-Inner.inner = inner_before c.args.leaf c.args.cube before c.in-Inner.inner c.args.level is c.in-Inner.is in
     let long : length c.loop-list.list-iterator.rest.items ≡ 0 = omega (arith, c.in-None.ensures.steps.0, c.loop-list.list-iterator.rest.ok) in
     let end : c.loop-list.g ≡ 8 = omega (arith, c.loop-list.invariant.below, no_child vec_items c.args.cube c.args.points.now c.loop-list.g _ c.loop-list.invariant.rest long) in
-    let keys : c.in-Inner.inner.best ≡ nears c.args.cube (inside c.args.cube before) = ap (λ (n : InnerLevel). n.best) inner.is in
-    grown_inner c.args.leaf c.args.cube before c.args.points.now c.in-Inner.inner c.loop-list.g _ c.sample.new.grid c.sample.new.best c.loop-list.levels inner c.requires.contained (omega arith)
-    (c.in_ok-sample-in-Inner.ensures.grid (inside c.args.cube before) (ap (λ (n : InnerLevel). n.grid) inner.is) keys)
-    (c.in_ok-sample-in-Inner.ensures.best (inside c.args.cube before) keys)
+    let keys : c.in-Inner.inner.runs ≡ nears c.args.cube (inside c.args.cube before) = ap (λ (n : InnerLevel). n.runs) inner.is in
+    grown_inner c.args.leaf c.args.cube before c.args.points.now c.in-Inner.inner c.loop-list.g _ c.add.new.self c.loop-list.levels inner c.requires.contained (omega arith)
+    (c.in_ok-add-in-Inner.ensures ∙ (λ i. least_nears (keys i ++ c.in_ok-run-in-Inner.ensures.run i)) ∙ nears_of_both c.args.cube (inside c.args.cube before) c.args.points.now)
     end (c.loop-list.invariant.grown before is)

@@ -1,0 +1,4 @@
+pub mod JoiningLaws
+pub mod MarkLaws
+pub mod RunLaws
+pub mod TableLaws

@@ -1,5 +1,5 @@
 -- The lists of leaves as plain data.
-use Rattle.std.specs.Prelude.{◌≡◌, ℕ, suc, ◌+◌, ◌-◌, ◌*◌, ◌/◌, ◌%◌, ◌<◌, ◌≤◌, Bool, true, false, if◌then◌else◌, max, List, [], ◌∷◌, ◌++◌, length, take, drop, sum, sum_by, slice_get, slice_set, slice_index, slice_index_or, Option, Some, Contains, AllPairs, ◌≢◌, All}
+use Rattle.std.specs.Prelude.{◌≡◌, ℕ, suc, ◌+◌, ◌-◌, ◌*◌, ◌/◌, ◌%◌, ◌<◌, ◌≤◌, ◌⊎◌, Bool, true, false, if◌then◌else◌, max, List, [], ◌∷◌, ◌++◌, length, take, drop, sum, sum_by, slice_get, slice_set, slice_index, slice_index_or, Option, Some, Contains, AllPairs, ◌≢◌, All}
 use Rattle.std.specs.List.{filter_map}
 use Rattle.list_machine.specs.declared.views.Grant.{Grant}
 use Rattle.list_words.specs.Filing.{granted_in_all}
@@ -160,6 +160,16 @@ pub record MayAdmit (s : Store) (gs : List Grant) : Type 0 where
   pub few : s.given + granted_in_all gs < 2147483648
   pub seats : seats_out s < 18446744073709551615
 
+-- all of a row but what was granted
+pub record SameBesidesGranted (a b : Row) : Type 0 where
+  pub phase : a.phase ≡ b.phase
+  pub claimed : a.claimed ≡ b.claimed
+  pub owned : a.owned ≡ b.owned
+  pub placed : a.placed ≡ b.placed
+  pub marked : a.marked ≡ b.marked
+  pub claimed_room : a.claimed_room ≡ b.claimed_room
+  pub owned_room : a.owned_room ≡ b.owned_room
+
 -- ---- clearing
 
 -- whether a list at this phase was shut
@@ -201,6 +211,10 @@ pub record IsReclaimed (old new : Store) : Type 0 where
   pub to : ClearsTo old new.cleared
   pub free : new.free + held_of new ≡ old.free + held_of old
   pub rest : new ≡ record old { rows = clear_rows (drop old.cleared (take new.cleared old.order)) old.rows; free = new.free; cleared = new.cleared }
+
+-- a row is as it was, or that of the list once it is cleared
+abbrev pub IsKeptOrCleared : Row → Row → Type 0
+IsKeptOrCleared a b = (b ≡ a) ⊎ (b ≡ emptied a)
 
 -- a list whose clearing is done
 abbrev pub IsCleared : Store → ℕ → Type 0

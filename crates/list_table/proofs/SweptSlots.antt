@@ -128,7 +128,7 @@ module _ (s : State) (sound : IsSound s) (l p f m : ℕ) (a : Leaf) (leaf : IsAt
   one_step t (clearing_ends h p' n e at begun all) le = same_words t (stays h (without_chains e) (apart h e at (cleared_swept p' n p f m e.stage begun))) refl (λ x e q. q)
   one_step t (splits gs fit) le =
       let none_left = none_granted gs fit.lists in
-      same_words t (subst (λ (b : Leaf). IsAt t.owner.book.leaves l b) (with_none (left_in l gs) none_left) (granting_at s.owner.book.leaves gs 0 l l a refl leaf)) refl (λ x e q. q)
+      same_words t (subst (λ (b : Leaf). IsAt t.owner.book.leaves l b) (with_none (left_in l gs) none_left) (granting_at s.owner.book.leaves gs 0 l l a (let k : l ≡ 0 + l = omega arith in k) leaf)) refl (λ x e q. q)
   one_step t (joins j v at out) le = same_words t leaf refl (λ x e q. (length v.facts + q.0, at_right v.facts s.owner.facts q.0 x q.1))
 
 -- lists are cleared one after another

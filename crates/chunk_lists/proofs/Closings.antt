@@ -68,25 +68,25 @@ module _ (lists chunks : ℕ) (g : Ledger) (b : BookValue) (t : AreTied lists ch
 -- what the notes show of a list that was swept
 module _ (lists chunks : ℕ) (g : Ledger) (b : BookValue) (t : AreTied lists chunks g b) (kept : IsKept g) (l p f : ℕ) (lt : l < lists) (swept : (leaf_of g l).stage ≡ Swept p f (f + (leaf_of g l).used))
     (few : f ≤ 256 * length (book_row b l).claimed) (used : (leaf_of g l).used ≤ 256 * length (book_row b l).owned) where
-  noted : IsNoted g.owner.facts l (leaf_of g l) (notes_of g l) (Swept p f (f + (leaf_of g l).used))
-  noted = subst (IsNoted g.owner.facts l (leaf_of g l) (notes_of g l)) swept (kept.noted l (leaf_of g l) (notes_of g l) (leaf_at g lists l t.leaves lt) (notes_at g lists l kept t.leaves lt))
+  as_noted : IsNoted g.owner.facts l (leaf_of g l) (notes_of g l) (Swept p f (f + (leaf_of g l).used))
+  as_noted = subst (IsNoted g.owner.facts l (leaf_of g l) (notes_of g l)) swept (kept.noted l (leaf_of g l) (notes_of g l) (leaf_at g lists l t.leaves lt) (notes_at g lists l kept t.leaves lt))
 
   same_place : {X : Type 0} (xs : List X) (i : ℕ) (x : X) → IsAt xs i x → IsAt xs (256 * (i / 256) + i % 256) x
   same_place xs i x at = let e : i ≡ 256 * (i / 256) + i % 256 = omega arith in subst (λ (k : ℕ). IsAt xs k x) e at
 
   pub marks_now : AreMarks (λ c k y. Knows g.owner.facts (shown l c k y)) (claims_at (leaf_of g l).stage) (row_in (rows_of b.rows g.notes) l)
-  marks_now = let one = t.each l lt in let count : length (notes_of g l).marked ≡ f = noted.1.all (omega arith) in
+  marks_now = let one = t.each l lt in let count : length (notes_of g l).marked ≡ f = as_noted.1.all (omega arith) in
       subst (λ (r : Row). AreMarks (λ c k y. Knows g.owner.facts (shown l c k y)) (claims_at (leaf_of g l).stage) r) (sym (row_is lists chunks g b t l)) (record {
         counted = count ∙ ap claims_at (sym swept);
         claimed = λ i y at.
             let within = at_below (notes_of g l).marked i y at in
             let chunk = some_at (book_row b l).claimed (i / 256) (omega arith) in
-            (chunk.0, chunk.1, noted.1.known (i / 256) chunk.0 (i % 256) y (subst (λ (cs : List ℕ). IsAt cs (i / 256) chunk.0) (sym one.claimed) chunk.1) (omega arith) (same_place (notes_of g l).marked i y at));
+            (chunk.0, chunk.1, as_noted.1.known (i / 256) chunk.0 (i % 256) y (subst (λ (cs : List ℕ). IsAt cs (i / 256) chunk.0) (sym one.claimed) chunk.1) (omega arith) (same_place (notes_of g l).marked i y at));
         owned = λ i x at.
             let within = at_below (notes_of g l).placed i x at in
-            let placed = noted.0.counted in
+            let placed = as_noted.0.counted in
             let chunk = some_at (book_row b l).owned (i / 256) (omega arith) in
-            (chunk.0, chunk.1, noted.0.known (i / 256) chunk.0 (i % 256) x (subst (λ (cs : List ℕ). IsAt cs (i / 256) chunk.0) (sym one.owned) chunk.1) (omega arith) (same_place (notes_of g l).placed i x at));
+            (chunk.0, chunk.1, as_noted.0.known (i / 256) chunk.0 (i % 256) x (subst (λ (cs : List ℕ). IsAt cs (i / 256) chunk.0) (sym one.owned) chunk.1) (omega arith) (same_place (notes_of g l).placed i x at));
       })
 
 module _ (lists chunks : ℕ) (g : Ledger) (b : BookValue) (t : AreTied lists chunks g b) (h : Ledger) (l p f m : ℕ) (marked : List (Option ℕ)) (s : AreSwept (ledger_after_shut g l f) h l p f m marked) (lt : l < lists)

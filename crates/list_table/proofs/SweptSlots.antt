@@ -1,10 +1,10 @@
 -- A list that was swept to its end stays as it is until its clearing begins, and the owner keeps its facts.
-use Rattle.std.proofs.Common.{◌≡◌, ◌≢◌, ℕ, zero, suc, ◌+◌, ◌*◌, ◌<◌, ◌≤◌, ◌⊎◌, inl, inr, true, false, List, ◌∷◌, ◌++◌, length, set, refl, sym, ap, ◌∙◌, subst, arith}
+use Rattle.std.proofs.Common.{◌≡◌, ◌≢◌, ℕ, suc, ◌+◌, ◌*◌, ◌<◌, ◌≤◌, true, false, List, ◌++◌, length, set, refl, sym, ap, ◌∙◌, subst, arith}
 use mathlib.Core.Logic.{dite}
-use native.Mathlib.Decide.{ℕ_discrete, dec_le}
+use native.Mathlib.Decide.{dec_le}
 use Rattle.list_machine.specs.State.{put}
 use Rattle.list_machine.specs.Words.{Word, blank, holding, raised}
-use Rattle.list_machine.specs.Facts.{IsAt, Chain, claimed_chain, owned_chain, chain_of, HasChunk, Holds, left_in, list_of}
+use Rattle.list_machine.specs.Facts.{IsAt, Chain, claimed_chain, owned_chain, HasChunk, Holds, left_in, list_of}
 use Rattle.list_machine.specs.Machine.{State, IsSound, Step, claims, files, misses, reads, places, adopts, links, shuts, marks, first_clears, slot_clears, link_clears, clearing_ends, splits, joins, Run, none, more}
 use Rattle.list_machine.specs.Steps.{IsNextMark, KnowsChunk, with_grant, with_stage, with_claimed, with_owned, with_one_used, without_chains}
 use Rattle.list_machine.specs.declared.views.Fact.{Fact}
@@ -15,7 +15,7 @@ use Rattle.list_machine.specs.declared.views.Leaf.{Leaf}
 use Rattle.list_machine.specs.declared.views.Stage.{Stage}
 use Rattle.list_machine.specs.declared.views.Stage.TheVariants.{Open, Swept, Cleared}
 use Rattle.list_machine.specs.declared.views.Unfiled.TheVariants.{Place}
-use Rattle.list_machine.proofs.Keeping.{step_sound, run_sound}
+use Rattle.list_machine.proofs.Keeping.{run_sound}
 use Rattle.list_machine.proofs.Lists.{at_same, at_both, at_right, at_set_other}
 use Rattle.list_machine.proofs.Puts.{putting_slot}
 use Rattle.list_machine.proofs.Seats.{granting_at}
@@ -114,13 +114,13 @@ module _ (s : State) (sound : IsSound s) (l p f m : ℕ) (a : Leaf) (leaf : IsAt
   one_step t (shuts h e at unshut) le = same_words t (stays h (with_stage e (Swept (length s.owner.book.order) (s.words.claim h).value 0)) (apart h e at (open_swept p f m e.stage unshut))) refl (λ x e q. (suc q.0, q.1))
   one_step t (marks h p' f' m' r d k x e at shut here lt next) le =
       let ne : l ≢ h = λ same. let is : e ≡ a = at_same s.owner.book.leaves l e a (subst (λ i. IsAt s.owner.book.leaves i e) (sym same) at) leaf in
-          let stage : Swept p f m ≡ Swept p' f' m' = sym swept ∙ ap (λ (b : Leaf). b.stage) (sym is) ∙ shut in
-          let place : p' ≡ p = sym (ap place_in stage) in
-          no_mark f' m' (256 * r + k) x (stage ∙ ap (λ i. Swept i f' m') place) (subst (λ (b : Leaf). IsNextMark b f' m' x (256 * r + k)) is next) in
+      let stage : Swept p f m ≡ Swept p' f' m' = sym swept ∙ ap (λ (b : Leaf). b.stage) (sym is) ∙ shut in
+      let place : p' ≡ p = sym (ap place_in stage) in
+      no_mark f' m' (256 * r + k) x (stage ∙ ap (λ i. Swept i f' m') place) (subst (λ (b : Leaf). IsNextMark b f' m' x (256 * r + k)) is next) in
       record { leaf = stays h (with_stage e (Swept p' f' (suc m'))) ne; slots = slot_else d k (raised (s.words.slot d k)) (λ mine. ne (alone h d e at mine (x, r, here))); facts = λ x e q. (suc q.0, q.1) }
   one_step t (first_clears h f' m' e at shut over unreached) le =
       let ne : l ≢ h = λ same. let is : e ≡ a = at_same s.owner.book.leaves l e a (subst (λ i. IsAt s.owner.book.leaves i e) (sym same) at) leaf in
-          let place : p ≡ s.owner.book.cleared = ap place_in (sym swept ∙ ap (λ (b : Leaf). b.stage) (sym is) ∙ shut) in absurd (omega (arith, le, place)) in
+      let place : p ≡ s.owner.book.cleared = ap place_in (sym swept ∙ ap (λ (b : Leaf). b.stage) (sym is) ∙ shut) in absurd (omega (arith, le, place)) in
       same_words t (stays h (with_stage e (Cleared s.owner.book.cleared 1)) ne) refl (λ x e q. others_stay h s.owner.facts l ne x e q)
   one_step t (slot_clears h p' n r d k e at begun here lt next) le = let ne = apart h e at (cleared_swept p' n p f m e.stage begun) in
       record { leaf = stays h (with_stage e (Cleared p' (suc n))) ne; slots = slot_else d k blank (λ mine. ne (alone h d e at mine (in_both e r d here))); facts = λ x e q. q }

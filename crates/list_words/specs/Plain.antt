@@ -1,10 +1,10 @@
 -- Lists over vectors, as plain data.
-use Rattle.std.specs.Prelude.{◌≡◌, ℕ, suc, ◌+◌, ◌*◌, ◌<◌, Bool, false, if◌then◌else◌, List, [], ◌∷◌, ◌++◌, length, map, slice_get, slice_set, slice_index, slice_index_or, Option, Some, None, Contains, All, replicate}
+use Rattle.std.specs.Prelude.{◌≡◌, ℕ, suc, ◌+◌, ◌*◌, ◌<◌, Bool, false, if◌then◌else◌, List, [], ◌∷◌, ◌++◌, length, map, slice_get, slice_set, slice_index, slice_index_or, Option, Some, None, All, replicate}
 use Rattle.list_machine.specs.Words.{Word, blank, holding, raised}
 use Rattle.list_words.specs.Store.{Seat, Store, is_shut}
 use Rattle.list_words.specs.declared.plain_filer.PlainReader.{PlainReader}
 use Rattle.list_words.specs.Filing.{Filing}
-use Rattle.list_words.specs.PlainRows.{PlainList, no_list, row_of, items_of, emptied_list}
+use Rattle.list_words.specs.PlainRows.{PlainList, no_list, row_of, emptied_list}
 use Rattle.list_words.specs.declared.leaf_lists.Answer.{Answer}
 use Rattle.list_words.specs.declared.leaf_lists.Filed.{Filed}
 use Rattle.list_words.specs.declared.leaf_lists.Filed.TheVariants.{At, Late}

@@ -1,4 +1,4 @@
-use Rattle.std.proofs.Common.{◌≡◌, ℕ, sym, subst, Contains}
+use Rattle.std.proofs.Common.{◌≡◌, sym, subst, Contains}
 use Rattle.list_words.specs.Store.{row, chunks_of}
 use Rattle.list_words.specs.declared.leaf_lists.Phase.TheVariants.{Open}
 use Rattle.chunk_lists.specs.Keepers.{KnownIn}

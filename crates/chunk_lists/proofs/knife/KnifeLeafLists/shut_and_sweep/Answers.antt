@@ -1,4 +1,4 @@
-use Rattle.std.proofs.Common.{◌≡◌, ℕ, Some, Option, sym, subst}
+use Rattle.std.proofs.Common.{ℕ, Option, sym, subst}
 use Rattle.list_words.specs.Store.{Stood}
 use Rattle.list_words.proofs.MarkLaws.{found_stands, marks_by}
 use Rattle.list_table.specs.Ledgers.{Knows, shown}

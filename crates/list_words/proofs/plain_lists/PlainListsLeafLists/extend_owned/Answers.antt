@@ -1,10 +1,9 @@
 use Rattle.std.proofs.Common.{◌≡◌, ◌+◌, ◌<◌, true, false, length, set, [], ◌∷◌, ap, sym, subst, ◌∙◌, arith}
-use Rattle.std.specs.List.{Contains}
 use Rattle.std.specs.FinSet as set_of
 use Rattle.std.proofs.lemmas.List.{length-append}
 use Rattle.chunk_pool.specs.Numbers.{Numbers, IsFree, without}
 use Rattle.list_words.specs.Store.{Row, IsInNoChain, Keeps, lengthened, is_shut, row, with_chunk}
-use Rattle.list_words.specs.PlainRows.{PlainList, items_of, lengthened_list, row_of}
+use Rattle.list_words.specs.PlainRows.{PlainList, lengthened_list, row_of}
 use Rattle.list_words.specs.Plain.{Plain, Knows, StandsAt, chain, chunk_count, list_in, store_of, with_list}
 use Rattle.list_words.specs.PlainKept.{AreHomed, AreSummed, home_of, plain_of}
 use Rattle.list_words.specs.declared.leaf_lists.Phase.TheVariants.{Open}

@@ -1,4 +1,4 @@
-use Rattle.std.proofs.Common.{◌≡◌, ◌<◌, length, ap, subst, sym, ◌∙◌, arith}
+use Rattle.std.proofs.Common.{◌≡◌, ◌<◌, length, ap, subst, sym, ◌∙◌}
 use Rattle.list_words.specs.Store.{Keeps, opened, row, with_row}
 use Rattle.list_words.specs.PlainRows.{PlainList, row_of}
 use Rattle.list_words.specs.Plain.{Knows, list_in, store_of, with_list}

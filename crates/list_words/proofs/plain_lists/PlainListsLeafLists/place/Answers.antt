@@ -1,4 +1,4 @@
-use Rattle.std.proofs.Common.{◌≡◌, true, ◌*◌, ◌/◌, ◌%◌, ◌<◌, length, Some, ap, refl, sym, subst, ◌∙◌, arith}
+use Rattle.std.proofs.Common.{◌≡◌, true, ◌/◌, ◌%◌, ◌<◌, length, Some, ap, refl, sym, subst, ◌∙◌}
 use Rattle.std.specs.List.{slice_get}
 use Rattle.list_words.specs.Store.{Row, Keeps, placed_in, row, with_row}
 use Rattle.list_words.specs.PlainRows.{PlainList, placed_list, row_of}

@@ -123,8 +123,8 @@ returns-clause-marks c =
     let q : PlainList = c.sweep.new.self in
     let e : q ≡ shut_list c.index_mut-row.result.now = c.sweep.ensures.shut in
     let marks : AreMarks (Stood (StandsIn q)) (length q.filed) (row_of q) = swept_marks q (ap (λ (b : PlainList). b.phase) e)
-        (subst (λ (b : PlainList). length b.filed ≤ 256 * length b.claimed) (sym e) c.sweep.ensures.filed)
-        (subst (λ (b : PlainList). length b.placed ≤ 256 * length b.owned) (sym e) c.sweep.ensures.placed) in
+    (subst (λ (b : PlainList). length b.filed ≤ 256 * length b.claimed) (sym e) c.sweep.ensures.filed)
+    (subst (λ (b : PlainList). length b.placed ≤ 256 * length b.owned) (sym e) c.sweep.ensures.placed) in
     subst (λ (r : Row). AreMarks (Stood (StandsIn (list_in lists c.args.list))) (length (list_in lists c.args.list).filed) r) (sym (row-map lists c.args.list))
     (subst (λ (b : PlainList). AreMarks (Stood (StandsIn b)) (length b.filed) (row_of b)) (sym here) marks)
 

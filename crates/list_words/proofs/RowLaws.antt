@@ -1,12 +1,13 @@
 -- The rows of a store after a call, for whoever stands on the contract of the lists.
-use Rattle.std.proofs.Common.{◌≡◌, ◌≢◌, ℕ, ◌+◌, ◌<◌, inl, inr, cond, List, [], ◌∷◌, ◌++◌, length, take, drop, set, Option, ap, refl, sym, subst, ◌∙◌, arith}
+use Rattle.std.proofs.Common.{◌≡◌, ◌≢◌, ℕ, ◌+◌, ◌<◌, inl, inr, cond, ◌==◌, eq-eqb, ne_eqb, List, [], ◌∷◌, ◌++◌, length, take, drop, set, Option, ap, refl, sym, subst, ◌∙◌, arith}
 use Rattle.std.specs.List.{Contains, sum_by}
 use Rattle.std.proofs.lemmas.Grind.{common_steps}
 use Rattle.std.proofs.lemmas.List.Elements.{Contains-append_left, Contains-append_right}
-use Rattle.std.proofs.lemmas.List.Sums.{sum_by-set}
+use Rattle.std.proofs.lemmas.List.Sums.{sum_by-cons, sum_by-set}
 use Rattle.std.proofs.lemmas.Bool.{cases_eq, cases_lt}
-use Rattle.std.proofs.lemmas.List.{get_or-set_same, get_or-set_other, get_or_past, set_past}
+use Rattle.std.proofs.lemmas.List.{length-set, get_or-set_same, get_or-set_other, get_or_past, set_past}
 use Rattle.list_machine.specs.declared.views.Grant.{Grant}
+use Rattle.list_words.specs.Filing.{granted_in}
 use Rattle.list_words.specs.Store.{Store, Row, IsCleared, IsKeptOrCleared, IsOpen, IsReclaimed, IsShut, SameBesidesGranted, chunks_of, clear_rows, emptied, grant_rows, held_in, held_of, is_shut, more_granted, no_row, row, row_in, shut_now, shut_with, with_row}
 use Rattle.list_words.specs.declared.leaf_lists.Phase.{Phase}
 use Rattle.list_words.specs.declared.leaf_lists.Phase.TheVariants.{Fresh, Open, Shut}
@@ -91,6 +92,44 @@ pub shut_holds : (s : Store) (l : ℕ) (marked : List (Option ℕ)) → IsOpen s
 shut_holds s l marked o =
     let e : sum_by held_in (set s.rows l (shut_with (row s l) marked)) + held_in (row s l) ≡ sum_by held_in s.rows + held_in (shut_with (row s l) marked) = sum_by-set held_in s.rows l (shut_with (row s l) marked) no_row (open_row s l o) in
     omega (arith, e, open_held (row s l) o)
+
+pub granted_holds : (gs : List Grant) (rows : List Row) → sum_by held_in (grant_rows gs rows) ≡ sum_by held_in rows
+granted_holds [] rows = refl
+granted_holds (g ∷ gs) rows = granted_holds gs (set rows g.list (more_granted (row_in rows g.list) g.n)) ∙ one rows g.list g.n
+  where
+    one : (rows : List Row) (m n : ℕ) → sum_by held_in (set rows m (more_granted (row_in rows m) n)) ≡ sum_by held_in rows
+    one rows m n = elim (cases_lt m (length rows)) [
+      | inl low ↦
+          let e : sum_by held_in (set rows m (more_granted (row_in rows m) n)) + held_in (row_in rows m) ≡ sum_by held_in rows + held_in (more_granted (row_in rows m) n) = sum_by-set held_in rows m (more_granted (row_in rows m) n) no_row low in
+          let same : held_in (more_granted (row_in rows m) n) ≡ held_in (row_in rows m) = refl in
+          omega (arith, e, same)
+      | inr high ↦ ap (sum_by held_in) (set_past rows m (more_granted (row_in rows m) n) high)
+    ]
+
+-- ---- what was granted
+
+plus_none : (n : ℕ) → n ≡ n + 0
+plus_none n = omega arith
+
+one_more : (rows : List Row) (g : Grant) (l : ℕ) → l < length rows → (row_in (set rows g.list (more_granted (row_in rows g.list) g.n)) l).granted ≡ (row_in rows l).granted + cond (g.list == l) g.n 0
+one_more rows g l low = elim (cases_eq l g.list) [
+  | inl same ↦
+      let e : row_in (set rows g.list (more_granted (row_in rows g.list) g.n)) l ≡ more_granted (row_in rows l) g.n =
+      ap (row_in (set rows g.list (more_granted (row_in rows g.list) g.n))) same ∙ get_or-set_same rows g.list (more_granted (row_in rows g.list) g.n) no_row (subst (λ k. k < length rows) same low) ∙ ap (λ k. more_granted (row_in rows k) g.n) (sym same) in
+      ap (λ (q : Row). q.granted) e ∙ ap (λ n. (row_in rows l).granted + n) (sym (ap (λ b. cond b g.n 0) (eq-eqb g.list l (sym same))))
+  | inr other ↦
+      ap (λ (q : Row). q.granted) (get_or-set_other rows g.list l (more_granted (row_in rows g.list) g.n) no_row other)
+      ∙ plus_none (row_in rows l).granted ∙ ap (λ n. (row_in rows l).granted + n) (sym (ap (λ b. cond b g.n 0) (ne_eqb g.list l (λ e. other (sym e)))))
+]
+
+pub granted_more : (gs : List Grant) (rows : List Row) (l : ℕ) → l < length rows → (row_in (grant_rows gs rows) l).granted ≡ (row_in rows l).granted + granted_in l gs
+granted_more [] rows l low = plus_none (row_in rows l).granted
+granted_more (g ∷ gs) rows l low =
+    let r : Row = more_granted (row_in rows g.list) g.n in
+    let long : l < length (set rows g.list r) = subst (λ n. l < n) (sym (length-set rows g.list r)) low in
+    let rest : (row_in (grant_rows gs (set rows g.list r)) l).granted ≡ (row_in (set rows g.list r) l).granted + granted_in l gs = granted_more gs (set rows g.list r) l long in
+    let cons : granted_in l (g ∷ gs) ≡ cond (g.list == l) g.n 0 + granted_in l gs = sum_by-cons (λ (h : Grant). cond (h.list == l) h.n 0) g gs in
+    omega (arith, rest, cons, one_more rows g l low)
 
 -- ---- lists are cleared
 

@@ -1,6 +1,7 @@
 //! Laws of the store, as clauses of functions without code: what its rows are after a call.
 ghost use Rattle.std.specs.Prelude.{◌≡◌, ◌≢◌, ℕ, ◌+◌, ◌<◌, List, Option, Contains, length};
 ghost use Rattle.list_machine.specs.declared.views.Grant.{Grant};
+ghost use Rattle.list_words.specs.Filing.{granted_in};
 ghost use Rattle.list_words.specs.Store.{IsCleared, IsKeptOrCleared, IsOpen, IsReclaimed, IsShut, Row, SameBesidesGranted, Store, admitted, chunks_of, held_of, row, shut_now, shut_with, with_chunk, with_row};
 ghost use Rattle.list_words.specs.declared.leaf_lists.Phase.TheVariants.{Open};
 
@@ -19,9 +20,12 @@ pub fn rows_after_a_link()
     ensures held { (s : Store) (l : ℕ) (r : Row) → IsOpen s l → r.phase ≡ Open → held_of (with_chunk s l r) ≡ held_of s }
 {}
 
-/// A law: the rows after a filer was made. They differ from those before in what was granted alone.
+/// A law: the rows after a filer was made. They differ from those before in what was granted alone: in each list that
+/// rises by the slots that the filer's grants give there.
 pub fn rows_after_grants()
-    ensures { (s : Store) (gs : List Grant) (l : ℕ) → SameBesidesGranted (row (admitted s gs) l) (row s l) }
+    ensures besides { (s : Store) (gs : List Grant) (l : ℕ) → SameBesidesGranted (row (admitted s gs) l) (row s l) }
+    ensures granted { (s : Store) (gs : List Grant) (l : ℕ) → l < length s.rows → (row (admitted s gs) l).granted ≡ (row s l).granted + granted_in l gs }
+    ensures held { (s : Store) (gs : List Grant) → held_of (admitted s gs) ≡ held_of s }
 {}
 
 /// A law: the rows after a list was shut. What takes items then took items before, and the chunks of the list are held.

@@ -47,6 +47,10 @@ module _ (lists chunks : ℕ) (g : Ledger) (b : BookValue) (t : AreTied lists ch
   chunk_then l c a at has = let x = leaf_is l a at in let one = t.each l x.0 in
       subst (λ (r : Row). Contains (chunks_of r) c) (sym (row_is lists chunks g b t l)) (in_row (book_row b l) (leaf_of g l) c one.claimed one.owned (subst (λ (z : Leaf). HasChunk z c) x.1 has))
 
+  pub claimed_then : (l r c : ℕ) (a : Leaf) → IsAt g.owner.book.leaves l a → IsAt a.claimed r c → IsAt (row_in (rows_of b.rows g.notes) l).claimed r c
+  claimed_then l r c a at here = let x = leaf_is l a at in
+      subst (λ (w : Row). IsAt w.claimed r c) (sym (row_is lists chunks g b t l)) (subst (λ (cs : List ℕ). IsAt cs r c) (ap (λ (z : Leaf). z.claimed) x.1 ∙ (t.each l x.0).claimed) here)
+
   pub found_now : IsKept g → ((o w d i y z : ℕ) → Knows g.owner.facts (Item o d i y) → Knows g.owner.facts (Item w d i z) → y ≡ z) → ((o w d i y : ℕ) → Knows g.owner.facts (Item o d i y) → Knows g.owner.facts (Empty w d i) → ⊥)
       → ((l c k x p f m : ℕ) (a : Leaf) → Knows g.owner.facts (Item l c k x) → IsAt g.owner.book.leaves l a → a.stage ≡ Swept p f m → (y : Chain) × (r : ℕ) × IsAt (chain_of a y) r c × (k < 256) × IsSweptPlace a f y (256 * r + k))
       → (l c k x : ℕ) (a : Leaf) → Knows g.owner.facts (Item l c k x) → IsAt g.owner.book.leaves l a → Stands a.stage → (row_in (rows_of b.rows g.notes) l).phase ≡ Shut

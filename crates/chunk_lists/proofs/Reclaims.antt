@@ -95,13 +95,13 @@ module _ (lists chunks : ℕ) (g : Ledger) (b : BookValue) (t : AreTied lists ch
 -- an owner after some of the lists that may be cleared were cleared: nothing is forgotten of the others
 pub record IsClearingOf (k q : KeeperValue) : Type 0 where
   pub stores : IsClearing (store_of k) (store_of q)
-  pub known : (h x : ℕ) → (Contains (take q.book.cleared k.book.order) h → ⊥) → KnownIn k h x → KnownIn q h x
+  pub known : (h c x : ℕ) → (Contains (take q.book.cleared k.book.order) h → ⊥) → KnownIn k h c x → KnownIn q h c x
 
 pub clearing_start : (k : KeeperValue) → IsClearingOf k k
-clearing_start k = record { stores = clearing_none (store_of k); known = λ h x uncleared known. known }
+clearing_start k = record { stores = clearing_none (store_of k); known = λ h c x uncleared known. known }
 
 pub clearing_next : (k q n : KeeperValue) (l : ℕ) → IsClearingOf k q → MayClearNext q.book → l ≡ next_in_order q.book → store_of n ≡ cleared_store (store_of q) l → (row_in (store_of q).rows l).phase ≡ Shut → l < length (store_of q).rows
-    → ((h x : ℕ) → (h ≡ l → ⊥) → KnownIn q h x → KnownIn n h x) → IsClearingOf k n
+    → ((h c x : ℕ) → (h ≡ l → ⊥) → KnownIn q h c x → KnownIn n h c x) → IsClearingOf k n
 clearing_next k q n l done may is store shut low known =
     let order_is : q.book.order ≡ k.book.order = ap (λ (x : Store). x.order) done.stores.rest in
     let some : q.book.cleared < length k.book.order = subst (λ (xs : List ℕ). q.book.cleared < length xs) order_is may.some in
@@ -109,7 +109,7 @@ clearing_next k q n l done may is store shut low known =
     let cleared : n.book.cleared ≡ suc q.book.cleared = ap (λ (x : Store). x.cleared) store in
     let taken : take n.book.cleared k.book.order ≡ take q.book.cleared k.book.order ++ l ∷ [] = ap (λ (j : ℕ). take j k.book.order) cleared ∙ (take-suc k.book.order q.book.cleared 0 some ∙ ap (λ j. take q.book.cleared k.book.order ++ j ∷ []) l_is) in record {
       stores = subst (IsClearing (store_of k)) (ap (cleared_store (store_of q)) (sym is) ∙ sym store) (clearing_more (store_of k) (store_of q) done.stores may.some may.nobody (subst (λ (j : ℕ). (row_in (store_of q).rows j).phase ≡ Shut) is shut) (subst (λ (j : ℕ). j < length (store_of q).rows) is low));
-      known = λ h x uncleared was. known h x
+      known = λ h c x uncleared was. known h c x
           (λ same. uncleared (subst (λ (xs : List ℕ). Contains xs h) (sym taken) (Contains-append_right (take q.book.cleared k.book.order) (l ∷ []) h (contains_last l h same))))
-          (done.known h x (λ inside. uncleared (subst (λ (xs : List ℕ). Contains xs h) (sym taken) (Contains-append_left (take q.book.cleared k.book.order) (l ∷ []) h inside))) was);
+          (done.known h c x (λ inside. uncleared (subst (λ (xs : List ℕ). Contains xs h) (sym taken) (Contains-append_left (take q.book.cleared k.book.order) (l ∷ []) h inside))) was);
     }

@@ -1,15 +1,16 @@
 -- The owner of lists, whose book and whose ledger tell the same of each list.
-use Rattle.std.specs.Prelude.{◌≡◌, ℕ, ◌+◌, ◌<◌, ◌⊎◌, List, [], ◌∷◌, length}
+use Rattle.std.specs.Prelude.{◌≡◌, ℕ, ◌+◌, ◌<◌, ◌⊎◌, List, [], ◌∷◌, length, Option}
 use Rattle.list_machine.specs.Facts.{total}
 use Rattle.list_machine.specs.Steps.{opening_leaf}
 use Rattle.list_machine.specs.declared.views.Fact.TheVariants.{Item}
 use Rattle.list_machine.specs.declared.views.Stage.TheVariants.{Open as Unshut, Swept, Cleared}
+use Rattle.list_machine.specs.declared.views.Stage.{Stage}
 use Rattle.list_machine.specs.declared.views.Leaf.{Leaf}
 use Rattle.list_words.specs.Store.{Row, Store}
 use Rattle.list_words.specs.declared.leaf_lists.Phase.{Phase}
 use Rattle.list_words.specs.declared.leaf_lists.Phase.TheVariants.{Fresh, Open, Shut}
 use Rattle.list_book.specs.Books.{BookRow, BookValue, book_row}
-use Rattle.list_table.specs.Ledgers.{Knows, no_notes, leaf_of, notes_of}
+use Rattle.list_table.specs.Ledgers.{Knows, no_notes, leaf_of, notes_of, shown}
 use Rattle.list_table.specs.Tables.{ListsValue, OwnerValue}
 use Rattle.list_table.specs.declared.views.Notes.{Notes}
 use Rattle.list_table.specs.declared.views.Ledger.{Ledger}
@@ -38,9 +39,23 @@ store_with k grants items = record { name = k.name; chunks = k.book.chunks; rows
 abbrev pub store_of : KeeperValue → Store
 store_of k = store_with k 0 0
 
--- the owner knows that the item stands in a slot of the list
-abbrev pub KnownIn : KeeperValue → ℕ → ℕ → Type 0
-KnownIn k l x = (c k' : ℕ) × Knows k.ledger.owner.facts (Item l c k' x)
+-- the owner knows that the item stands in a slot of the chunk, which is one of the list's
+abbrev pub KnownIn : KeeperValue → ℕ → ℕ → ℕ → Type 0
+KnownIn k l c x = (k' : ℕ) × Knows k.ledger.owner.facts (Item l c k' x)
+
+-- the owner knows of the slot of the chunk that it has this item, or that it was marked while it was empty
+abbrev pub ShownIn : KeeperValue → ℕ → ℕ → ℕ → Option ℕ → Type 0
+ShownIn k l c k' y = Knows k.ledger.owner.facts (shown l c k' y)
+
+-- how many places were claimed, as the shut of a list at this stage found
+abbrev pub claims_at : Stage → ℕ
+claims_at Unshut = 0
+claims_at (Swept p f m) = f
+claims_at (Cleared p n) = 0
+
+-- and of each list
+abbrev pub claims_of : KeeperValue → ℕ → ℕ
+claims_of k l = claims_at (leaf_of k.ledger l).stage
 
 -- a shut list was swept to its end, or cleared, and then it has no chunks and no notes
 abbrev pub IsDone : BookRow → Leaf → Notes → Type 0

@@ -2,12 +2,13 @@ ghost use Rattle.std.specs.Prelude.{◌≡◌, ℕ, ◌+◌, ◌*◌, ◌/◌, �
 ghost use Rattle.std.specs.Vec.{vec_capacity};
 ghost use Rattle.list_machine.specs.Steps.{newcomer};
 ghost use Rattle.list_machine.specs.declared.views.Fact.{Fact};
-ghost use Rattle.list_machine.specs.declared.views.Fact.TheVariants.{Item, Closed, Empty};
-ghost use Rattle.list_words.specs.Store.{IsCleared, IsInNoChain, IsOpen, IsReclaimed, IsShut, Keeps, MayAdmit, admitted, chunks_of, found_in, held_of, lengthened, linked, one_less, one_more, opened, placed_in, roomier, row, seats_out, shut_now, with_chunk, with_row, cleared_store};
+ghost use Rattle.list_machine.specs.declared.views.Fact.TheVariants.{Item, Link, Closed, Empty};
+ghost use Rattle.list_machine.specs.declared.views.LinkWord.{LinkWord};
+ghost use Rattle.list_words.specs.Store.{AreMarks, IsCleared, IsInNoChain, IsOpen, IsReclaimed, IsShut, Keeps, MayAdmit, admitted, chunks_of, found_in, held_of, lengthened, linked, one_less, one_more, opened, placed_in, roomier, row, seats_out, shut_now, with_chunk, with_row, cleared_store};
 ghost use Rattle.list_words.specs.declared.leaf_lists.Phase.TheVariants.{Fresh};
 ghost use Rattle.list_book.specs.Books.{MayClearNext, fresh_book, next_in_order};
 ghost use Rattle.list_table.specs.Ledgers.{Knows, opening_ledger};
-ghost use Rattle.chunk_lists.specs.Keepers.{KnownIn, store_of, store_with};
+ghost use Rattle.chunk_lists.specs.Keepers.{KnownIn, ShownIn, claims_of, store_of, store_with};
 
 use crate::sweeping::shut_and_mark;
 use crate::wiping::wipe;
@@ -170,7 +171,7 @@ impl Keeper {
         ensures store { store_of self.new ≡ with_row (store_of self.old) list (placed_in (row (store_of self.old) list) item) }
         ensures chunk { slice_get (row (store_of self.old) list).owned (length (row (store_of self.old) list).placed / 256) ≡ Some result.0 }
         ensures slot { result.1 ≡ length (row (store_of self.old) list).placed % 256 }
-        ensures placed { KnownIn self.new list item }
+        ensures placed { KnownIn self.new list result.0 item }
         ensures known { Keeps (KnownIn self.old) (KnownIn self.new) }
     {
         numbers_are_small(&self.book);
@@ -187,7 +188,9 @@ impl Keeper {
         requires room { vec_len out.old + 256 * length (chunks_of (row (store_of self.old) list)) ≤ vec_capacity out.old }
         ensures store { (marked : List (Option ℕ)) × (length marked ≤ (row (store_of self.old) list).granted) × (store_of self.new ≡ shut_now (store_of self.old) list marked) }
         ensures found { out.new.items ≡ out.old.items ++ found_in (row (store_of self.new) list) }
-        ensures swept { (x : ℕ) → KnownIn self.old list x → Contains (found_in (row (store_of self.new) list)) x }
+        ensures marks { AreMarks (ShownIn self.new list) (claims_of self.new list) (row (store_of self.new) list) }
+        ensures swept { (c x : ℕ) → KnownIn self.old list c x → Contains (found_in (row (store_of self.new) list)) x }
+        ensures capacity { vec_capacity out.old ≤ vec_capacity out.new }
         ensures known { Keeps (KnownIn self.old) (KnownIn self.new) }
     {
         numbers_are_small(&self.book);
@@ -195,6 +198,7 @@ impl Keeper {
         let owned = self.book.owned(list);
         let used = self.book.used(list);
         shut_and_mark(&self.lists, &mut self.seat, list, claimed, owned, used, out);
+        self.seat.notes_are_kept();
         self.book.shut(list);
     }
 
@@ -239,7 +243,7 @@ impl Keeper {
     /// which is out may reach, and gives their chunks back. It takes no memory.
     pub fn reclaim(&mut self)
         ensures store { IsReclaimed (store_of self.old) (store_of self.new) }
-        ensures known { (l x : ℕ) → (IsCleared (store_of self.new) l → ⊥) → KnownIn self.old l x → KnownIn self.new l x }
+        ensures known { (l c x : ℕ) → (IsCleared (store_of self.new) l → ⊥) → KnownIn self.old l c x → KnownIn self.new l c x }
     {
         counts_are_kept(&self.book);
         while let Some(list) = self.book.may_clear() {
@@ -250,7 +254,7 @@ impl Keeper {
 
     /// A law: an item that the owner knows to stand in a shut list was found by its sweep.
     pub fn known_items_are_found(&self)
-        ensures { (l x : ℕ) → KnownIn self.now l x → IsShut (store_of self.now) l → Contains (found_in (row (store_of self.now) l)) x }
+        ensures { (l c x : ℕ) → KnownIn self.now l c x → IsShut (store_of self.now) l → Contains (found_in (row (store_of self.now) l)) x }
     {
         self.seat.notes_are_kept();
         self.seat.facts_agree();
@@ -263,6 +267,13 @@ impl Keeper {
         ensures { (l c k x : ℕ) → Knows self.now.ledger.owner.facts (Item l c k x) → Contains (chunks_of (row (store_of self.now) l)) c × (k < 256) × (x < 2 ^ 32) }
     {
         self.seat.items_stand_in_chunks();
+    }
+
+    /// A law: a chunk to which the owner knows a link to lead has that rank in the list's claimed chain.
+    pub fn known_links_have_chunks(&self)
+        ensures { (l r c : ℕ) (from : LinkWord) → Knows self.now.ledger.owner.facts (Link l from r c) → slice_get (row (store_of self.now) l).claimed r ≡ Some c }
+    {
+        self.seat.links_stand_in_chains();
     }
 
     /// A law: a list that is known to be shut is shut, and so is one of which a slot was marked while it was empty.
@@ -280,7 +291,7 @@ impl Keeper {
         ensures store { store_of self.new ≡ cleared_store (store_of self.old) list }
         ensures shut { IsShut (store_of self.old) list }
         ensures below { list < length (store_of self.old).rows }
-        ensures known { (l x : ℕ) → (l ≡ list → ⊥) → KnownIn self.old l x → KnownIn self.new l x }
+        ensures known { (l c x : ℕ) → (l ≡ list → ⊥) → KnownIn self.old l c x → KnownIn self.new l c x }
     {
         numbers_are_small(&self.book);
         order_is_of_shut_lists(&self.book);

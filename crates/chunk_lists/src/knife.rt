@@ -1,4 +1,7 @@
-ghost use Rattle.std.specs.Prelude.{◌≡◌, ◌≤◌, IfOk, IsTrue};
+ghost use Rattle.std.specs.Prelude.{◌≡◌, ℕ, ◌+◌, ◌*◌, ◌≤◌, ◌↔◌, ◌++◌, List, Option, length, Contains, IfOk, IsTrue, vec_len};
+ghost use Rattle.std.specs.Vec.{vec_capacity};
+ghost use Rattle.list_words.specs.Store.{AreMarks, IsOpen, Keeps, Stood, chunks_of, found_in, row, shut_now};
+ghost use Rattle.chunk_lists.specs.Keepers.{KnownIn, ShownIn, claims_of};
 ghost use Rattle.list_book.specs.Books.{fresh_book};
 ghost use Rattle.list_table.specs.Ledgers.{opening_ledger};
 ghost use Rattle.list_filers.specs.Filers.{shared_name};
@@ -51,7 +54,7 @@ impl Knife {
 }
 
 impl LeafLists for Knife {
-    ghost use Rattle.chunk_lists.specs.Keepers.{KnownIn};
+    ghost use Rattle.chunk_lists.specs.Keepers.{KnownIn, claims_of};
     ghost use Rattle.chunk_lists.specs.Knives.{lists_of, seat_of, Sees};
 
     type Filer = Filer;
@@ -61,6 +64,8 @@ impl LeafLists for Knife {
     ghost store = { lists_of };
 
     ghost knows = { λ k. KnownIn k.keeper };
+
+    ghost claims = { λ k. claims_of k.keeper };
 
     ghost seat = { seat_of };
 
@@ -100,7 +105,19 @@ impl LeafLists for Knife {
         self.keeper.place(list, item)
     }
 
-    fn shut_and_sweep(&mut self, list: u32, out: &mut Vec<u32>) {
+    /// Besides, the owner knows of each slot what its mark found.
+    fn shut_and_sweep(&mut self, list: u32, out: &mut Vec<u32>)
+        requires takes { IsOpen (lists_of self.old) list }
+        requires room { vec_len out.old + 256 * length (chunks_of (row (lists_of self.old) list)) ≤ vec_capacity out.old }
+        ensures store { (marked : List (Option ℕ)) × (length marked ≤ (row (lists_of self.old) list).granted) × (lists_of self.new ≡ shut_now (lists_of self.old) list marked) }
+        ensures found { out.new.items ≡ out.old.items ++ found_in (row (lists_of self.new) list) }
+        ensures slots { AreMarks (ShownIn self.new.keeper list) (claims_of self.new.keeper list) (row (lists_of self.new) list) }
+        ensures marks { AreMarks (Stood (KnownIn self.new.keeper list)) (claims_of self.new.keeper list) (row (lists_of self.new) list) }
+        ensures stands { (x : ℕ) → Contains (found_in (row (lists_of self.new) list)) x → (c : ℕ) × KnownIn self.new.keeper list c x }
+        ensures swept { (c x : ℕ) → KnownIn self.old.keeper list c x → Contains (found_in (row (lists_of self.new) list)) x }
+        ensures capacity { vec_capacity out.old ≤ vec_capacity out.new }
+        ensures known { Keeps (KnownIn self.old.keeper) (KnownIn self.new.keeper) }
+    {
         self.keeper.shut_and_sweep(list, out);
     }
 
@@ -118,7 +135,7 @@ impl LeafLists for Knife {
 
     /// Each filer is vouched for: the facts of its seat bear its answers out.
     fn vouches(&self, _filer: &Filer) -> bool
-        ensures { IsTrue result }
+        ensures { IsTrue result ↔ Unit {0} }
     {
         true
     }
@@ -129,6 +146,7 @@ impl LeafLists for Knife {
         let seat = filer.into_seat();
         self.keeper.take_back(seat, birth);
         self.keeper.known_items_are_found();
+        self.keeper.known_links_have_chunks();
         self.keeper.late_lists_are_shut();
     }
 

@@ -42,6 +42,7 @@ pub(crate) fn shut_and_mark(
         × (length marked ≡ found) × (found ≤ (leaf_of seat.old.ledger list).granted)
         × (out.new.items ≡ out.old.items ++ (items_in marked ++ (notes_of seat.old.ledger list).placed))
         × ((c k x : ℕ) → Knows seat.old.ledger.owner.facts (Item list c k x) → Contains (items_in marked ++ (notes_of seat.old.ledger list).placed) x) }
+    ensures capacity { vec_capacity out.old ≤ vec_capacity out.new }
 {
     seat.notes_are_kept();
     let found = lists.shut(seat, list) as u32;
@@ -106,6 +107,7 @@ fn sweep_owned(
     ensures name { seat.new.name ≡ seat.old.name }
     ensures swept { (p : ℕ) × AreSwept seat.old.ledger seat.new.ledger list p found (found + used) (notes_of seat.old.ledger list).marked }
     ensures found { out.new.items ≡ out.old.items ++ (notes_of seat.old.ledger list).placed }
+    ensures capacity { vec_capacity out.old ≤ vec_capacity out.new }
 {
     let _found = found;
     seat.notes_are_kept();

@@ -126,7 +126,7 @@ uses_chunk v l c k x true = filed k x (0, refl)
 uses_chunk v l c k x false = moved c k (0, refl)
 
 shows : (v : Guest) (l c k x r : ℕ) (stands : Bool) → KnowsChunk (after_file v l c k x stands) l r c → IsShown (after_file v l c k x stands) l x (answer_of stands c k)
-shows v l c k x r true known = (0, refl)
+shows v l c k x r true known = ((0, refl), (r, known))
 shows v l c k x r false known = ((0, refl), (r, known))
 
 module _ (w u y : WaysValue) (at l i c x : ℕ) (stands : Bool) (a : Cursor) (ready : IsReady w.guest w.cursors) (some : 0 < left_in l w.guest.grants) (here : IsAt w.cursors at a) (list : a.list ≡ l)

@@ -12,8 +12,8 @@ use Rattle.list_filers.specs.Ways.{IsShown}
 use Rattle.list_filers.specs.Filers.{AreShown}
 use Rattle.list_filers.proofs.Walking.{Grows, chunk_stays}
 
-shown_still : (v u : Guest) (l x : ℕ) (filed : Filed) → Grows v.facts u.facts → IsShown v l x filed → IsShown u l x filed
-shown_still v u l x (At c k) more s = more (Item l c k x) s
+pub shown_still : (v u : Guest) (l x : ℕ) (filed : Filed) → Grows v.facts u.facts → IsShown v l x filed → IsShown u l x filed
+shown_still v u l x (At c k) more s = (more (Item l c k x) s.0, (s.1.0, chunk_stays v u l s.1.0 c more s.1.1))
 shown_still v u l x (Late Shut) more s = more (Closed l) s
 shown_still v u l x (Late (Moved c k)) more s = (more (Empty l c k) s.0, (s.1.0, chunk_stays v u l s.1.0 c more s.1.1))
 

@@ -10,10 +10,11 @@ use Rattle.list_words.specs.Filing.{Filing}
 use Rattle.list_words.specs.declared.leaf_lists.Answer.{Answer}
 use Rattle.list_filers.specs.Ways.{WaysValue, IsReady, IsShown}
 
--- what the filer is as lists see it, and how many links it has walked
+-- what the filer is as lists see it, how many links it has walked, and what its guest knows of the lists
 pub record FilerValue : Type 0 where
   pub filing : Filing
   pub walked : ℕ
+  pub guest : Guest
 
 -- the name of lists, with which their filers are named too: how many lists and chunks there are, and the name of their table
 abbrev pub shared_name : ListsValue → List ℕ
@@ -23,6 +24,7 @@ abbrev pub filer_of : WaysValue → ℕ → List Answer → FilerValue
 filer_of w birth answers = record {
   filing = record { name = shared_name w.lists; birth = birth; left = w.guest.grants; answers = answers };
   walked = w.walked;
+  guest = w.guest;
 }
 
 -- what the guest knows bears all answers out

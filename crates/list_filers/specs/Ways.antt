@@ -95,9 +95,9 @@ pub record IsReady (v : Guest) (cursors : List Cursor) : Type 0 where
   pub granted : (l : ℕ) → 0 < left_in l v.grants → HasCursor cursors l
   pub spent : (i : ℕ) (a : Cursor) → IsAt cursors i a → IsSpent v a.list a.reached
 
--- what the guest knows bears the answer out
+-- what the guest knows bears the answer out: the slot has the item, or the list is shut, or the slot was marked while it was empty; and the chunk is one of the list's claimed chain
 abbrev pub IsShown : Guest → ℕ → ℕ → Filed → Type 0
-IsShown v l x (At c k) = Knows v.facts (Item l c k x)
+IsShown v l x (At c k) = Knows v.facts (Item l c k x) × ((r : ℕ) × KnowsChunk v l r c)
 IsShown v l x (Late Shut) = Knows v.facts (Closed l)
 IsShown v l x (Late (Moved c k)) = Knows v.facts (Empty l c k) × ((r : ℕ) × KnowsChunk v l r c)
 

@@ -37,12 +37,20 @@ impl Model for Filer {
 
 impl Filings for Filer {
     ghost filing = { λ f. f.filing };
+
+    fn answers(&self) -> &[Answer] {
+        &self.answers
+    }
 }
 
 impl SharedFiler for Filer {
+    ghost use Rattle.list_filers.specs.Ways.{IsShown};
+
     type Lists = SharedLists;
 
     ghost walked = { λ f. f.walked };
+
+    ghost shows = { λ f. IsShown f.guest };
 
     fn file<L: Ledger>(
         &mut self,
@@ -75,6 +83,7 @@ impl Filer {
         requires items_room { granted_in_all grants.now ≤ room.old.items }
         ensures filing { result.filing ≡ record { name = shared_name lists.now; birth = birth; left = grants.now; answers = [] } }
         ensures walked { result.walked ≡ 0 }
+        ensures knows { result.guest ≡ seat.guest }
         ensures room { room.new ≡ no_room }
     {
         let (mut places, answers) = room.take();
@@ -93,16 +102,10 @@ impl Filer {
         self.birth
     }
 
-    /// What the filings answered, in order.
-    pub fn answers(&self) -> &[Answer]
-        ensures { result.now ≡ self.now.filing.answers }
-    {
-        &self.answers
-    }
-
     /// The filer's seat. What its guest knows bears all answers out.
     pub fn into_seat(self) -> GuestSeat
         ensures name { (s : ListsValue) → self.filing.name ≡ shared_name s → result.name ≡ s.name }
+        ensures guest { result.guest ≡ self.guest }
         ensures out { result.guest.out ≡ true }
         ensures birth { result.guest.birth ≡ self.filing.birth }
         ensures grants { result.guest.grants ≡ self.filing.left }

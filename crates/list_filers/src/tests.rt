@@ -10,7 +10,7 @@ ghost use Rattle.list_filers.specs.Filers.{shared_name};
 use crate::{Filer, FilerRoom, Reader};
 use list_machine::Grant;
 use list_table::{OwnerSeat, SharedLists};
-use list_words::{Answer, Filed, Seen, SharedFiler};
+use list_words::{Answer, Filed, Filings, Seen, SharedFiler};
 use std::alloc::{AllocError, Global};
 use std::marker::Brand;
 use std::sync::ledger::{Blank, Ledger};

@@ -4,7 +4,8 @@ use Rattle.list_machine.specs.Facts.{IsAt, Chain, chain_of, HasChunk, Stands, is
 use Rattle.list_machine.specs.Layouts.{words_of}
 use Rattle.list_machine.specs.Steps.{IsSweptPlace}
 use Rattle.list_machine.specs.Walks.{IsWalk, WalkedLink}
-use Rattle.list_machine.specs.declared.views.Fact.TheVariants.{Item, Closed, Empty}
+use Rattle.list_machine.specs.declared.views.Fact.TheVariants.{Item, Link, Closed, Empty}
+use Rattle.list_machine.specs.declared.views.LinkWord.{LinkWord}
 use Rattle.list_machine.specs.declared.views.Stage.TheVariants.{Swept}
 use Rattle.list_machine.specs.declared.views.Leaf.{Leaf}
 use Rattle.list_machine.specs.declared.views.Guest.{Guest}
@@ -21,6 +22,11 @@ stands_in_chunk lists chunks g p l c k x q =
     let small = p.agrees.items c k in
     let z : Stands y.0.stage × HasChunk y.0 c × (k < 256) = ⊎_elim (λ t. (t.0, t.1.0, t.1.1)) (λ e. absurd (cc)) y.2.1 in
     (y.0, y.1, z.0, z.1, z.2, omega arith)
+
+pub link_stands : (lists chunks : ℕ) (g : Ledger) → IsPossible lists chunks g → (l r c : ℕ) (from : LinkWord) → Knows g.owner.facts (Link l from r c) → (a : Leaf) × IsAt g.owner.book.leaves l a × Stands a.stage × IsAt a.claimed r c
+link_stands lists chunks g p l r c from q =
+    let y = p.agrees.sound.known.owner q.0 (Link l from r c) q.1 in
+    let z : Stands y.0.stage × IsAt y.0.claimed r c = ⊎_elim (λ t. (t.0, t.1.1)) (λ e. absurd (cc)) y.2.1 in (y.0, y.1, z.0, z.1)
 
 pub walks_short : (lists chunks : ℕ) (v : Guest) → IsPossibleGuest lists chunks v → (most : ℕ) (walked : List WalkedLink) → IsWalk v most walked → length walked ≤ most
 walks_short lists chunks v p most walked walk = walk_is_short (words_of lists chunks p.words) p.ledger.owner p.guests p.number most v walked p.agrees.sound p.at walk

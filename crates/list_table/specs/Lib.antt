@@ -3,3 +3,4 @@ pub mod Ruled
 pub mod Tables
 pub mod GuestMoves
 pub mod OwnerMoves
+pub mod SweptLists

@@ -4,7 +4,8 @@ ghost use Rattle.list_machine.specs.Facts.{IsAt, Chain, chain_of, HasChunk, Stan
 ghost use Rattle.list_machine.specs.Rule.{AreOrdered};
 ghost use Rattle.list_machine.specs.Steps.{IsSweptPlace};
 ghost use Rattle.list_machine.specs.Walks.{IsWalk, WalkedLink};
-ghost use Rattle.list_machine.specs.declared.views.Fact.TheVariants.{Item, Closed, Empty};
+ghost use Rattle.list_machine.specs.declared.views.Fact.TheVariants.{Item, Link, Closed, Empty};
+ghost use Rattle.list_machine.specs.declared.views.LinkWord.{LinkWord};
 ghost use Rattle.list_machine.specs.declared.views.Leaf.{Leaf};
 ghost use Rattle.list_machine.specs.declared.views.Stage.TheVariants.{Swept};
 ghost use Rattle.list_table.specs.Ledgers.{IsKept, Knows};
@@ -46,6 +47,14 @@ impl OwnerSeat {
     pub fn items_are_swept(&self)
         ensures { (l c k x p f m : ℕ) (a : Leaf) → Knows self.now.ledger.owner.facts (Item l c k x) → IsAt self.now.ledger.owner.book.leaves l a → a.stage ≡ Swept p f m
             → (y : Chain) × (r : ℕ) × IsAt (chain_of a y) r c × (k < 256) × IsSweptPlace a f y (256 * r + k) }
+    {
+        let _ = &self.size;
+    }
+
+    /// A law: a chunk to which the owner knows a link to lead has that rank in the list's claimed chain. The clearing
+    /// of the list has not begun.
+    pub fn links_stand_in_chains(&self)
+        ensures { (l r c : ℕ) (from : LinkWord) → Knows self.now.ledger.owner.facts (Link l from r c) → (a : Leaf) × IsAt self.now.ledger.owner.book.leaves l a × Stands a.stage × IsAt a.claimed r c }
     {
         let _ = &self.size;
     }

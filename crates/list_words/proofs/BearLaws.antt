@@ -15,7 +15,7 @@ abbrev pub StandsByRank : PlainList → ℕ → ℕ → ℕ → ℕ → Type 0
 StandsByRank p rank item c i = (slice_get p.claimed rank ≡ Some c) × (i < 256) × (slice_get p.filed (256 * rank + i) ≡ Some item)
 
 -- an item that stands in a slot of a chunk stands there by the rank of the chunk's home
-pub stands_at_home : (lists : List PlainList) (homes : List Home) (pool : Numbers) (l item c i : ℕ) (h : Home) → AreHomed lists homes pool → StandsAt (list_in lists l) item c i → slice_get homes c ≡ Some h
+pub stands_at_home : (lists : List PlainList) (homes : List Home) (pool : Numbers) (l item c i : ℕ) (h : Home) → AreHomed lists homes pool → StandsAt false (list_in lists l) item c i → slice_get homes c ≡ Some h
     → StandsByRank (list_in lists l) h.rank item c i
 stands_at_home lists homes pool l item c i h kept at here =
     let e : Some (home_of l false at.rank) ≡ Some h = sym (kept.home false l at.rank c at.chunk) ∙ here in
@@ -23,7 +23,7 @@ stands_at_home lists homes pool l item c i h kept at here =
     subst (λ r. StandsByRank (list_in lists l) r item c i) same (at.chunk, at.within, at.stands)
 
 -- in a chunk without a home nothing stands
-pub nothing_without_home : (lists : List PlainList) (homes : List Home) (pool : Numbers) (l item c i : ℕ) → AreHomed lists homes pool → length homes ≤ c → StandsAt (list_in lists l) item c i → ⊥
+pub nothing_without_home : (lists : List PlainList) (homes : List Home) (pool : Numbers) (l item c i : ℕ) → AreHomed lists homes pool → length homes ≤ c → StandsAt false (list_in lists l) item c i → ⊥
 nothing_without_home lists homes pool l item c i kept high at =
     let low : c < length homes = slice_get_within homes c (home_of l false at.rank) (kept.home false l at.rank c at.chunk) in
     absurd (omega arith)

@@ -4,6 +4,7 @@ pub mod ClearLaws
 pub mod FreshLaws
 pub mod GrantLaws
 pub mod Grants
+pub mod MarkLaws
 pub mod Places
 pub mod PlainLaws
 pub mod ReclaimLaws

@@ -1,5 +1,6 @@
 -- Elements of lists by their places.
-use Rattle.std.proofs.Common.{◌≡◌, ◌≢◌, ℕ, zero, suc, ◌<◌, ◌⊎◌, inl, inr, List, [], ◌∷◌, ◌++◌, length, set, get_or, Some, ap, refl, arith}
+use Rattle.std.proofs.Common.{◌≡◌, ◌≢◌, ℕ, zero, suc, ◌<◌, ◌⊎◌, inl, inr, List, [], ◌∷◌, ◌++◌, length, map, set, get_or, Some, ap, refl, arith}
+use Rattle.std.proofs.lemmas.Option.{same_Some}
 use Rattle.std.specs.List.{slice_get}
 
 pub slice_get-set_same : {X : Type 0} (xs : List X) (i : ℕ) (v : X) → i < length xs → slice_get (set xs i v) i ≡ Some v
@@ -26,3 +27,24 @@ pub get_or-push : (xs : List ℕ) (y i d : ℕ) → i < length xs → get_or (xs
 get_or-push [] y i d h = absurd (omega arith)
 get_or-push (x ∷ xs) y zero d h = refl
 get_or-push (x ∷ xs) y (suc i) d h = get_or-push xs y i d (omega arith)
+
+pub append_none : {X : Type 0} (xs : List X) → xs ++ [] ≡ xs
+append_none [] = refl
+append_none (x ∷ xs) = ap (λ ys. x ∷ ys) (append_none xs)
+
+-- an element keeps its place while others are put at the end
+pub slice_get-more : {X : Type 0} (xs ys : List X) (i : ℕ) (x : X) → slice_get xs i ≡ Some x → slice_get (xs ++ ys) i ≡ Some x
+slice_get-more [] ys i x e = absurd (cc)
+slice_get-more (y ∷ xs) ys zero x e = e
+slice_get-more (y ∷ xs) ys (suc i) x e = slice_get-more xs ys i x e
+
+-- the last one stands at the end
+pub slice_get-last : {X : Type 0} (xs : List X) (x : X) → slice_get (xs ++ x ∷ []) (length xs) ≡ Some x
+slice_get-last [] x = refl
+slice_get-last (y ∷ xs) x = slice_get-last xs x
+
+-- the number at a place of a list of numbers that are all there
+pub some_at_map : (xs : List ℕ) (i x : ℕ) → slice_get (map Some xs) i ≡ Some (Some x) → slice_get xs i ≡ Some x
+some_at_map [] i x e = absurd (cc)
+some_at_map (y ∷ xs) zero x e = same_Some (Some y) (Some x) e
+some_at_map (y ∷ xs) (suc i) x e = some_at_map xs i x e

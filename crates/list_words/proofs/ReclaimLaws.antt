@@ -6,8 +6,8 @@ use Rattle.std.proofs.lemmas.List.Elements.{Contains-append_left, Contains-appen
 use Rattle.std.proofs.lemmas.List.Sums.{sum_by-cons}
 use Rattle.std.proofs.Math.Seq.{take-suc}
 use Rattle.list_words.specs.Store.{Store, Row, Unreached, chunks_of, cleared_store, emptied, held_in, is_shut, row_in}
-use Rattle.list_words.specs.PlainRows.{PlainList, row_of, items_of, emptied_list}
-use Rattle.list_words.specs.Plain.{Plain, list_in, store_of, Knows, all_chunks, chunk_count, held_chunks, next_list, next_cleared}
+use Rattle.list_words.specs.PlainRows.{PlainList, row_of, emptied_list}
+use Rattle.list_words.specs.Plain.{Plain, list_in, store_of, Knows, StandsIn, chunk_count, held_chunks, next_list, next_cleared}
 use Rattle.list_words.specs.declared.leaf_lists.Phase.TheVariants.{Shut}
 use Rattle.list_words.proofs.ClearLaws.{IsClearing, clearing_more, clearing_none, contains_last}
 use Rattle.list_words.proofs.PlainLaws.{row-map, list_in-set_other, shut_within}
@@ -40,11 +40,11 @@ store-cleared q =
 -- lists after some of those that may be cleared were cleared: the others are as they were
 pub record IsClearingOf (p q : Plain) : Type 0 where
   pub stores : IsClearing (store_of p) (store_of q)
-  pub known : (l x : ℕ) → (Contains (take q.cleared p.order) l → ⊥) → Knows p l x → Knows q l x
+  pub known : (l c x : ℕ) → (Contains (take q.cleared p.order) l → ⊥) → Knows p l c x → Knows q l c x
   pub stays : (l : ℕ) → (Contains (take q.cleared p.order) l → ⊥) → list_in q.lists l ≡ list_in p.lists l
 
 pub clearing_start : (p : Plain) → IsClearingOf p p
-clearing_start p = record { stores = clearing_none (store_of p); known = λ l x uncleared known. known; stays = λ l uncleared. refl }
+clearing_start p = record { stores = clearing_none (store_of p); known = λ l c x uncleared known. known; stays = λ l uncleared. refl }
 
 pub clearing_next : (p q : Plain) → IsClearingOf p q → q.cleared < length q.order → Unreached q.out q.cleared → (list_in q.lists (next_list q)).phase ≡ Shut → IsClearingOf p (next_cleared q)
 clearing_next p q done some nobody shut_now =
@@ -63,7 +63,6 @@ clearing_next p q done some nobody shut_now =
     uncleared (subst (λ (xs : List ℕ). Contains xs m) (sym taken) (Contains-append_right (take q.cleared p.order) (l ∷ []) m (contains_last l m same))) in
     record {
       stores = subst (IsClearing (store_of p)) (sym (store-cleared q)) (clearing_more (store_of p) (store_of q) done.stores some nobody phase within);
-      known = λ m x uncleared known.
-          subst (λ (b : PlainList). Contains (items_of b) x × (0 < length (all_chunks b))) (sym (list_in-set_other q.lists l m e (other m uncleared))) (done.known m x (before m uncleared) known);
+      known = λ m c x uncleared known. subst (λ (b : PlainList). StandsIn b c x) (sym (list_in-set_other q.lists l m e (other m uncleared))) (done.known m c x (before m uncleared) known);
       stays = λ m uncleared. list_in-set_other q.lists l m e (other m uncleared) ∙ done.stays m (before m uncleared);
     }

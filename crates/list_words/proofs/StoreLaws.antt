@@ -1,20 +1,20 @@
 -- How lists over vectors look as a store, after one list changed.
-use Rattle.std.proofs.Common.{◌≡◌, ℕ, suc, ◌+◌, ◌-◌, ◌*◌, ◌<◌, ◌≤◌, ◌⊎◌, inl, inr, Bool, true, false, cond, List, [], ◌∷◌, ◌++◌, length, map, set, get_or, Some, Option, ap, refl, sym, subst, ◌∙◌, arith}
+use Rattle.std.proofs.Common.{◌≡◌, ℕ, suc, ◌+◌, ◌-◌, ◌*◌, ◌/◌, ◌%◌, ◌<◌, ◌≤◌, ◌⊎◌, inl, inr, Bool, true, false, cond, List, [], ◌∷◌, ◌++◌, length, map, set, get_or, Some, Option, ap, refl, sym, subst, ◌∙◌, arith}
 use Rattle.std.specs.Prelude.{All}
 use Rattle.std.specs.List.{Contains, slice_get, filter_map, sum_by}
 use Rattle.std.proofs.lemmas.Bool.{cases_eq, cases_lt}
 use Rattle.std.proofs.lemmas.Option.{slice_get_within, slice_get-get_or, get_or_from_slice_get}
-use Rattle.std.proofs.lemmas.List.{length-append, length-map, map-set, get_or_default, get_or_past, set_past, append_assoc}
+use Rattle.std.proofs.lemmas.List.{length-map, map-set, get_or_default, get_or_past, set_past}
 use Rattle.std.proofs.lemmas.List.Elements.{Contains-append_cases, Contains-append_left, Contains-append_right}
 use Rattle.std.proofs.lemmas.List.Sums.{sum_by-cons, sum_by-le-sum_by}
 use Rattle.chunk_pool.specs.Numbers.{Numbers, IsFree}
 use Rattle.list_words.specs.Filing.{Filing}
-use Rattle.list_words.specs.Store.{Store, Row, IsOpen, IsShut, Keeps, chunks_of, found_in, grant_rows, is_shut, more_granted, row, shut_now, shut_with, with_chunk, with_row}
-use Rattle.list_words.specs.PlainRows.{emptied_list, granted_list, placed_list, shut_list}
+use Rattle.list_words.specs.Store.{Store, Row, AreMarks, IsOpen, IsShut, IsStanding, Keeps, Stood, chunks_of, found_in, grant_rows, is_shut, more_granted, row, shut_now, shut_with, with_chunk, with_row}
+use Rattle.list_words.specs.PlainRows.{emptied_list, granted_list, lengthened_list, linked_list, placed_list, shut_list}
 use Rattle.list_words.specs.PlainGrants.{MayGrant, grant_lists}
 use Rattle.list_machine.specs.declared.views.Grant.{Grant}
 use Rattle.list_words.specs.PlainRows.{PlainList, items_of, no_list, row_of}
-use Rattle.list_words.specs.Plain.{Plain, Bears, BearsOut, Knows, StandsAt, all_chunks, chain, chunk_at, chunk_count, held_chunks, list_in, next_cleared, next_list, shut_count, store_of, with_list, SameFiled}
+use Rattle.list_words.specs.Plain.{Plain, Bears, BearsOut, Knows, StandsAt, StandsIn, all_chunks, chain, chain_items, chunk_at, chunk_count, held_chunks, list_in, next_cleared, next_list, shut_count, store_of, with_list, SameFiled}
 use Rattle.list_words.specs.PlainKept.{AreHomed, AreOrdered, AreSummed}
 use Rattle.list_words.specs.declared.leaf_lists.Answer.{Answer}
 use Rattle.list_words.specs.declared.leaf_lists.Filed.{Filed}
@@ -24,6 +24,7 @@ use Rattle.list_words.specs.declared.leaf_lists.Phase.{Phase}
 use Rattle.list_words.specs.declared.leaf_lists.Phase.TheVariants.{Fresh, Open, Shut}
 use Rattle.list_words.specs.declared.plain_homes.Home.{Home}
 use Rattle.list_words.proofs.FreshLaws.{no_chunk_there}
+use Rattle.list_words.proofs.Places.{append_none, slice_get-last, slice_get-more, some_at_map}
 use Rattle.list_words.proofs.PlainLaws.{count-le, homed-set, list_in-set_other, list_in-set_same, open_within, ordered-set, row-map, store-with_list, summed-set}
 
 -- ---- the list that a call changes
@@ -34,19 +35,31 @@ list_is lists l old low is = is ∙ get_or_default lists l old no_list low
 pub store_changed : (p : Plain) (l : ℕ) (old new : PlainList) (f : Row → Row) → old ≡ list_in p.lists l → row_of new ≡ f (row_of old) → store_of (with_list p l new) ≡ with_row (store_of p) l (f (row (store_of p) l))
 store_changed p l old new f is changed = store-with_list p l new ∙ ap (with_row (store_of p) l) (changed ∙ ap f (ap row_of is ∙ sym (row-map p.lists l)))
 
-pub known_changed : (p : Plain) (l : ℕ) (old new : PlainList) → l < length p.lists → old ≡ list_in p.lists l → ((x : ℕ) → 0 < length (all_chunks old) → Contains (items_of old) x → Contains (items_of new) x)
-    → (0 < length (all_chunks old) → 0 < length (all_chunks new)) → Keeps (Knows p) (Knows (with_list p l new))
-known_changed p l old new low is items chunks = λ m x known. elim (cases_eq m l) [
+pub known_changed : (p : Plain) (l : ℕ) (old new : PlainList) → l < length p.lists → old ≡ list_in p.lists l → ((owned : Bool) (x c i : ℕ) → StandsAt owned old x c i → StandsAt owned new x c i) → Keeps (Knows p) (Knows (with_list p l new))
+known_changed p l old new low is stays = λ m c x known. elim (cases_eq m l) [
   | inl same ↦
       let now : list_in (set p.lists l new) m ≡ new = ap (list_in (set p.lists l new)) same ∙ list_in-set_same p.lists l new low in
-      let was : list_in p.lists m ≡ old = ap (list_in p.lists) same ∙ sym is in (
-        subst (λ (b : PlainList). Contains (items_of b) x) (sym now) (items x (subst (λ (b : PlainList). 0 < length (all_chunks b)) was known.1) (subst (λ (b : PlainList). Contains (items_of b) x) was known.0)),
-        subst (λ (b : PlainList). 0 < length (all_chunks b)) (sym now) (chunks (subst (λ (b : PlainList). 0 < length (all_chunks b)) was known.1)),
-      )
-  | inr other ↦
-      let same : list_in (set p.lists l new) m ≡ list_in p.lists m = list_in-set_other p.lists l m new other in
-      (subst (λ (b : PlainList). Contains (items_of b) x) (sym same) known.0, subst (λ (b : PlainList). 0 < length (all_chunks b)) (sym same) known.1)
+      let was : list_in p.lists m ≡ old = ap (list_in p.lists) same ∙ sym is in
+      (known.0, known.1, subst (λ (b : PlainList). StandsAt known.0 b x c known.1) (sym now) (stays known.0 x c known.1 (subst (λ (b : PlainList). StandsAt known.0 b x c known.1) was known.2)))
+  | inr other ↦ (known.0, known.1, subst (λ (b : PlainList). StandsAt known.0 b x c known.1) (sym (list_in-set_other p.lists l m new other)) known.2)
 ]
+
+-- an item stands where it stood while chunks and items are put at the ends
+pub stands_more : (owned : Bool) (old new : PlainList) (cs xs : List ℕ) → chain owned new ≡ chain owned old ++ cs → chain_items owned new ≡ chain_items owned old ++ xs → (x c i : ℕ) → StandsAt owned old x c i → StandsAt owned new x c i
+stands_more owned old new cs xs chunks items x c i at = record {
+  rank = at.rank;
+  chunk = ap (λ (ys : List ℕ). slice_get ys at.rank) chunks ∙ slice_get-more (chain owned old) cs at.rank c at.chunk;
+  within = at.within;
+  stands = ap (λ (ys : List ℕ). slice_get ys (256 * at.rank + i)) items ∙ slice_get-more (chain_items owned old) xs (256 * at.rank + i) x at.stands;
+}
+
+pub stands_same : (owned : Bool) (old new : PlainList) → chain owned new ≡ chain owned old → chain_items owned new ≡ chain_items owned old → (x c i : ℕ) → StandsAt owned old x c i → StandsAt owned new x c i
+stands_same owned old new chunks items x c i at = record {
+  rank = at.rank;
+  chunk = ap (λ (ys : List ℕ). slice_get ys at.rank) chunks ∙ at.chunk;
+  within = at.within;
+  stands = ap (λ (ys : List ℕ). slice_get ys (256 * at.rank + i)) items ∙ at.stands;
+}
 
 -- a list with as many chunks at the same places, and as shut as before
 pub record SameShape (b q : PlainList) : Type 0 where
@@ -109,42 +122,39 @@ found_items p l shut_now =
 contains_at : (xs : List ℕ) (i x : ℕ) → slice_get xs i ≡ Some x → Contains xs x
 contains_at xs i x at = (i, slice_get_within xs i x at, get_or_from_slice_get xs i x x at)
 
-pub stands_known : (p : Plain) (l item c k : ℕ) → StandsAt (list_in p.lists l) item c k → Knows p l item
-stands_known p l item c k here =
-    let q : PlainList = list_in p.lists l in
-    let some : here.rank < length q.claimed = slice_get_within q.claimed here.rank c here.chunk in
-    (Contains-append_left q.filed q.placed item (contains_at q.filed (256 * here.rank + k) item here.stands), omega (arith, some, length-append q.claimed q.owned))
+-- an item that stands in a slot is one of the list's
+pub stands_among : (owned : Bool) (q : PlainList) (item c i : ℕ) → StandsAt owned q item c i → Contains (items_of q) item
+stands_among true q item c i at = Contains-append_right q.filed q.placed item (contains_at q.placed (256 * at.rank + i) item at.stands)
+stands_among false q item c i at = Contains-append_left q.filed q.placed item (contains_at q.filed (256 * at.rank + i) item at.stands)
+
+-- its chunk is one of the list's
+pub stands_chunk : (p : Plain) (l c x : ℕ) → Knows p l c x → Contains (chunks_of (row (store_of p) l)) c
+stands_chunk p l c x known = subst (λ (cs : List ℕ). Contains cs c) (sym (ap chunks_of (row-map p.lists l))) (inside known.0 (list_in p.lists l) known.2.rank known.2.chunk)
+  where
+    inside : (o : Bool) (q : PlainList) (r : ℕ) → slice_get (chain o q) r ≡ Some c → Contains (all_chunks q) c
+    inside true q r here = Contains-append_right q.claimed q.owned c (contains_at q.owned r c here)
+    inside false q r here = Contains-append_left q.claimed q.owned c (contains_at q.claimed r c here)
 
 all_at : (P : Answer → Type 0) (xs : List Answer) (a : Answer) → All P xs → Contains xs a → P a
 all_at P xs a all inside = subst P inside.2 (all inside.0 a inside.1)
 
 -- what the answers of a filer show that are borne out
-pub record IsShown (p : Plain) (l item : ℕ) : Type 0 where
-  pub known : Knows p l item
-  pub swept : IsShut (store_of p) l → Contains (found_in (row (store_of p) l)) item
-
-pub filed_shown : (p : Plain) (f : Filing) (a : Answer) (c k : ℕ) → BearsOut p f → Contains f.answers a → a.filed ≡ At c k → IsShown p a.list a.item
+pub filed_shown : (p : Plain) (f : Filing) (a : Answer) (c k : ℕ) → BearsOut p f → Contains f.answers a → a.filed ≡ At c k → IsStanding (Knows p a.list) (row (store_of p) a.list) c a.item
 filed_shown p f a c k out inside at =
     let bears : Bears (list_in p.lists a.list) a.item a.filed = all_at (λ (b : Answer). Bears (list_in p.lists b.list) b.item b.filed) f.answers a out.answers inside in
-    let stands : StandsAt (list_in p.lists a.list) a.item c k = subst (λ (w : Filed). Bears (list_in p.lists a.list) a.item w) at bears in
-    let known : Knows p a.list a.item = stands_known p a.list a.item c k stands in
-    record { known = known; swept = λ shut_now. subst (λ (xs : List ℕ). Contains xs a.item) (sym (found_items p a.list shut_now)) known.0 }
+    let stands : StandsAt false (list_in p.lists a.list) a.item c k = subst (λ (w : Filed). Bears (list_in p.lists a.list) a.item w) at bears in
+    record {
+      known_there = (false, k, stands);
+      rank = stands.rank;
+      chunk = ap (λ (r : Row). slice_get r.claimed stands.rank) (row-map p.lists a.list) ∙ stands.chunk;
+      found = λ shut_now. subst (λ (xs : List ℕ). Contains xs a.item) (sym (found_items p a.list shut_now)) (stands_among false (list_in p.lists a.list) a.item c k stands);
+    }
 
 pub late_shown : (p : Plain) (f : Filing) (a : Answer) (s : Seen) → BearsOut p f → Contains f.answers a → a.filed ≡ Late s → IsShut (store_of p) a.list
 late_shown p f a s out inside at =
     let bears : Bears (list_in p.lists a.list) a.item a.filed = all_at (λ (b : Answer). Bears (list_in p.lists b.list) b.item b.filed) f.answers a out.answers inside in
     let phase : (list_in p.lists a.list).phase ≡ Shut = subst (λ (w : Filed). Bears (list_in p.lists a.list) a.item w) at bears in
     ap (λ (r : Row). r.phase) (row-map p.lists a.list) ∙ phase
-
--- a list in which an item stands has a chunk
-pub first_chunk : (p : Plain) (l : ℕ) → 0 < length (all_chunks (list_in p.lists l)) → (c : ℕ) × Contains (chunks_of (row (store_of p) l)) c
-first_chunk p l some =
-    let e : chunks_of (row (store_of p) l) ≡ all_chunks (list_in p.lists l) = ap chunks_of (row-map p.lists l) in
-    subst (λ (cs : List ℕ). (c : ℕ) × Contains cs c) (sym e) (first (all_chunks (list_in p.lists l)) some)
-  where
-    first : (cs : List ℕ) → 0 < length cs → (c : ℕ) × Contains cs c
-    first [] some = absurd (omega arith)
-    first (c ∷ cs) some = let small : 0 < length (c ∷ cs) = omega arith in (c, (0, small, refl))
 
 -- a chunk in no chain has no place
 pub no_place : (p : Plain) (c : ℕ) → ((l : ℕ) → Contains (chunks_of (row (store_of p) l)) c → ⊥) → (owned : Bool) (l r : ℕ) → chunk_at p.lists owned l r ≡ Some c → ⊥
@@ -177,24 +187,46 @@ same_shape b q changed is chains phase = record {
   still = λ shut_now. ap (λ (w : PlainList). w.phase) is ∙ phase ∙ shut_now;
 }
 
-pub more_placed : (q : PlainList) (item x : ℕ) → Contains (items_of q) x → Contains (items_of (placed_list q item)) x
-more_placed q item x inside = subst (λ (xs : List ℕ). Contains xs x) (append_assoc q.filed q.placed (item ∷ [])) (Contains-append_left (items_of q) (item ∷ []) x inside)
+-- each item stands where it stood once one more is placed
+pub more_placed : (owned : Bool) (q : PlainList) (item x c i : ℕ) → StandsAt owned q x c i → StandsAt owned (placed_list q item) x c i
+more_placed true q item x c i at = stands_more true q (placed_list q item) [] (item ∷ []) (sym (append_none q.owned)) refl x c i at
+more_placed false q item x c i at = stands_same false q (placed_list q item) refl refl x c i at
 
-contains_one : (x : ℕ) → Contains (x ∷ []) x
-contains_one x = let small : 0 < length (x ∷ []) = omega arith in (0, small, refl)
+-- and that one stands in the next slot
+pub placed_there : (q : PlainList) (item c : ℕ) → slice_get q.owned (length q.placed / 256) ≡ Some c → StandsAt true (placed_list q item) item c (length q.placed % 256)
+placed_there q item c chunk = record {
+  rank = length q.placed / 256;
+  chunk = chunk;
+  within = omega arith;
+  stands = (let place : 256 * (length q.placed / 256) + length q.placed % 256 ≡ length q.placed = omega arith in ap (λ k. slice_get (q.placed ++ item ∷ []) k) place) ∙ slice_get-last q.placed item;
+}
 
-pub placed_there : (q : PlainList) (item : ℕ) → Contains (items_of (placed_list q item)) item
-placed_there q item = Contains-append_right q.filed (q.placed ++ item ∷ []) item (Contains-append_right q.placed (item ∷ []) item (contains_one item))
-
-pub known_here : (p : Plain) (l x : ℕ) (new : PlainList) → l < length p.lists → Contains (items_of new) x → 0 < length (all_chunks new) → Knows (with_list p l new) l x
-known_here p l x new low inside some =
-    let is : list_in (set p.lists l new) l ≡ new = list_in-set_same p.lists l new low in
-    (subst (λ (b : PlainList). Contains (items_of b) x) (sym is) inside, subst (λ (b : PlainList). 0 < length (all_chunks b)) (sym is) some)
+pub known_here : (p : Plain) (l c x : ℕ) (new : PlainList) → l < length p.lists → StandsIn new c x → Knows (with_list p l new) l c x
+known_here p l c x new low stands = subst (λ (b : PlainList). StandsIn b c x) (sym (list_in-set_same p.lists l new low)) stands
 
 -- the same list is put back
-pub known_same : (p : Plain) (l : ℕ) (old new : PlainList) → l < length p.lists → old ≡ list_in p.lists l → items_of new ≡ items_of old → all_chunks new ≡ all_chunks old → Keeps (Knows p) (Knows (with_list p l new))
-known_same p l old new low is items chunks =
-    known_changed p l old new low is (λ x some inside. subst (λ (xs : List ℕ). Contains xs x) (sym items) inside) (λ some. subst (λ (cs : List ℕ). 0 < length cs) (sym chunks) some)
+pub known_same : (p : Plain) (l : ℕ) (old new : PlainList) → l < length p.lists → old ≡ list_in p.lists l → ((owned : Bool) → chain owned new ≡ chain owned old) → ((owned : Bool) → chain_items owned new ≡ chain_items owned old) → Keeps (Knows p) (Knows (with_list p l new))
+known_same p l old new low is chunks items = known_changed p l old new low is (λ owned x c i at. stands_same owned old new (chunks owned) (items owned) x c i at)
+
+-- a chunk stands at the end of a chain
+pub stands_linked : (owned : Bool) (q : PlainList) (d x c i : ℕ) → StandsAt owned q x c i → StandsAt owned (linked_list q d) x c i
+stands_linked true q d x c i at = stands_same true q (linked_list q d) refl refl x c i at
+stands_linked false q d x c i at = stands_more false q (linked_list q d) (d ∷ []) [] refl (sym (append_none q.filed)) x c i at
+
+pub stands_lengthened : (owned : Bool) (q : PlainList) (d x c i : ℕ) → StandsAt owned q x c i → StandsAt owned (lengthened_list q d) x c i
+stands_lengthened true q d x c i at = stands_more true q (lengthened_list q d) (d ∷ []) [] refl (sym (append_none q.placed)) x c i at
+stands_lengthened false q d x c i at = stands_same false q (lengthened_list q d) refl refl x c i at
+
+-- nothing stands in a list without chunks
+pub nothing_stands : (owned : Bool) (q : PlainList) (x c i : ℕ) → q.claimed ≡ [] → q.owned ≡ [] → StandsAt owned q x c i → ⊥
+nothing_stands true q x c i claimed owned at = none at.rank (ap (λ (cs : List ℕ). slice_get cs at.rank) (sym owned) ∙ at.chunk)
+  where
+    none : (r : ℕ) → slice_get [] r ≡ Some c → ⊥
+    none r e = cc
+nothing_stands false q x c i claimed owned at = none at.rank (ap (λ (cs : List ℕ). slice_get cs at.rank) (sym claimed) ∙ at.chunk)
+  where
+    none : (r : ℕ) → slice_get [] r ≡ Some c → ⊥
+    none r e = cc
 
 -- ---- a chunk is taken for a chain
 
@@ -262,8 +294,28 @@ shut_found p l old new low shut_is =
     let here : list_in (set p.lists l new) l ≡ shut_list old = list_in-set_same p.lists l new low ∙ shut_is in
     ap found_in (row-map (set p.lists l new) l ∙ ap row_of here) ∙ found-row_of (shut_list old) refl
 
--- ---- grants
+-- what the sweep showed: the items in the slots of both chains
+pub swept_marks : (q : PlainList) → q.phase ≡ Shut → length q.filed ≤ 256 * length q.claimed → length q.placed ≤ 256 * length q.owned → AreMarks (Stood (StandsIn q)) (length q.filed) (row_of q)
+swept_marks q shut_now filed placed = record {
+  counted = ap length marked_is ∙ length-map q.filed Some;
+  claimed = λ i y at. let stands : slice_get (map Some q.filed) i ≡ Some y = ap (λ (ys : List (Option ℕ)). slice_get ys i) (sym marked_is) ∙ at in
+      let low : i < length (map Some q.filed) = slice_get_within (map Some q.filed) i y stands in
+      let long : length (map Some q.filed) ≡ length q.filed = length-map q.filed Some in
+      let chunk : slice_get q.claimed (i / 256) ≡ Some (get_or q.claimed (i / 256) 0) = slice_get-get_or q.claimed (i / 256) 0 (omega arith) in
+      (get_or q.claimed (i / 256) 0, chunk, λ x is. (false, i % 256, record { rank = i / 256; chunk = chunk; within = omega arith; stands = at_place q.filed i x (some_at_map q.filed i x (stands ∙ ap Some is)) }));
+  owned = λ i x at.
+      let low : i < length q.placed = slice_get_within q.placed i x at in
+      let chunk : slice_get q.owned (i / 256) ≡ Some (get_or q.owned (i / 256) 0) = slice_get-get_or q.owned (i / 256) 0 (omega arith) in
+      (get_or q.owned (i / 256) 0, chunk, λ z is. (true, i % 256, record { rank = i / 256; chunk = chunk; within = omega arith; stands = at_place q.placed i z (at ∙ is) }));
+}
+  where
+    marked_is : (row_of q).marked ≡ map Some q.filed
+    marked_is = ap (λ s. let xs : List (Option ℕ) = cond (is_shut s) (map Some q.filed) [] in xs) shut_now
 
+    at_place : (xs : List ℕ) (i x : ℕ) → slice_get xs i ≡ Some x → slice_get xs (256 * (i / 256) + i % 256) ≡ Some x
+    at_place xs i x at = let place : 256 * (i / 256) + i % 256 ≡ i = omega arith in ap (slice_get xs) place ∙ at
+
+-- ---- grants
 granted_shape : (lists : List PlainList) (l n : ℕ) → SameShape (granted_list (list_in lists l) n) (list_in lists l)
 granted_shape lists l n = same_shape (granted_list (list_in lists l) n) (list_in lists l) (granted_list (list_in lists l) n) refl (λ owned. refl) refl
 
@@ -294,26 +346,26 @@ rows-grants (g ∷ gs) lists =
     rows-grants gs (set lists g.list (granted_list (list_in lists g.list) g.n))
     ∙ ap (grant_rows gs) (map-set row_of lists g.list (granted_list (list_in lists g.list) g.n) ∙ ap (λ (r : Row). set (map row_of lists) g.list (more_granted r g.n)) (sym (row-map lists g.list)))
 
-pub known-grants : (gs : List Grant) (p q : Plain) → q.lists ≡ grant_lists gs p.lists → Keeps (Knows p) (Knows q)
-known-grants gs p q is = λ l x known.
-    subst (λ (ls : List PlainList). Contains (items_of (list_in ls l)) x × (0 < length (all_chunks (list_in ls l)))) (sym is) (stays gs p.lists l x known)
-  where
-    stays_one : (lists : List PlainList) (m n l x : ℕ) → Contains (items_of (list_in lists l)) x × (0 < length (all_chunks (list_in lists l)))
-        → Contains (items_of (list_in (set lists m (granted_list (list_in lists m) n)) l)) x × (0 < length (all_chunks (list_in (set lists m (granted_list (list_in lists m) n)) l)))
-    stays_one lists m n l x known = elim (cases_eq l m) [
-      | inr other ↦ subst (λ (b : PlainList). Contains (items_of b) x × (0 < length (all_chunks b))) (sym (list_in-set_other lists m l (granted_list (list_in lists m) n) other)) known
-      | inl same ↦ elim (cases_lt m (length lists)) [
-        | inl low ↦
-            let now : list_in (set lists m (granted_list (list_in lists m) n)) l ≡ granted_list (list_in lists m) n = ap (list_in (set lists m (granted_list (list_in lists m) n))) same ∙ list_in-set_same lists m (granted_list (list_in lists m) n) low in
-            subst (λ (b : PlainList). Contains (items_of b) x × (0 < length (all_chunks b))) (sym now) (subst (λ k. Contains (items_of (list_in lists k)) x × (0 < length (all_chunks (list_in lists k)))) same known)
-        | inr high ↦ subst (λ (ls : List PlainList). Contains (items_of (list_in ls l)) x × (0 < length (all_chunks (list_in ls l)))) (sym (set_past lists m (granted_list (list_in lists m) n) high)) known
-      ]
-    ]
+stands_granted : (owned : Bool) (q : PlainList) (n x c i : ℕ) → StandsAt owned q x c i → StandsAt owned (granted_list q n) x c i
+stands_granted owned q n x c i at = stands_same owned q (granted_list q n) refl refl x c i at
 
-    stays : (gs : List Grant) (lists : List PlainList) (l x : ℕ) → Contains (items_of (list_in lists l)) x × (0 < length (all_chunks (list_in lists l)))
-        → Contains (items_of (list_in (grant_lists gs lists) l)) x × (0 < length (all_chunks (list_in (grant_lists gs lists) l)))
-    stays [] lists l x known = known
-    stays (g ∷ gs) lists l x known = stays gs (set lists g.list (granted_list (list_in lists g.list) g.n)) l x (stays_one lists g.list g.n l x known)
+-- what each grant leaves as it is stays
+grants_keep : (P : PlainList → Type 0) → ((q : PlainList) (n : ℕ) → P q → P (granted_list q n)) → (gs : List Grant) (lists : List PlainList) (l : ℕ) → P (list_in lists l) → P (list_in (grant_lists gs lists) l)
+grants_keep P one [] lists l holds = holds
+grants_keep P one (g ∷ gs) lists l holds = grants_keep P one gs (set lists g.list (granted_list (list_in lists g.list) g.n)) l (elim (cases_eq l g.list) [
+  | inr other ↦ subst P (sym (list_in-set_other lists g.list l (granted_list (list_in lists g.list) g.n) other)) holds
+  | inl same ↦ elim (cases_lt g.list (length lists)) [
+    | inl low ↦
+        let now : list_in (set lists g.list (granted_list (list_in lists g.list) g.n)) l ≡ granted_list (list_in lists g.list) g.n = ap (list_in (set lists g.list (granted_list (list_in lists g.list) g.n))) same ∙ list_in-set_same lists g.list (granted_list (list_in lists g.list) g.n) low in
+        subst P (sym now) (one (list_in lists g.list) g.n (subst (λ k. P (list_in lists k)) same holds))
+    | inr high ↦ subst (λ (ls : List PlainList). P (list_in ls l)) (sym (set_past lists g.list (granted_list (list_in lists g.list) g.n) high)) holds
+  ]
+])
+
+pub known-grants : (gs : List Grant) (p q : Plain) → q.lists ≡ grant_lists gs p.lists → Keeps (Knows p) (Knows q)
+known-grants gs p q is = λ l c x known.
+    subst (λ (ls : List PlainList). StandsIn (list_in ls l) c x) (sym is)
+    (known.0, known.1, grants_keep (λ b. StandsAt known.0 b x c known.1) (λ b n at. stands_granted known.0 b n x c known.1 at) gs p.lists l known.2)
 
 pub may_grant : (p q : Plain) (pool : Numbers) (held shuts : ℕ) (g : Grant) → p ≡ q → AreSummed p.lists pool held shuts → pool.size ≤ 1000000 → IsOpen (store_of q) g.list → (row (store_of q) g.list).granted + g.n ≤ 256 * length (row (store_of q) g.list).claimed → MayGrant p.lists g
 may_grant p q pool held shuts g same kept few open_now slots =

@@ -1,14 +1,14 @@
 -- Lists over vectors, as plain data.
-use Rattle.std.specs.Prelude.{◌≡◌, ℕ, suc, ◌+◌, ◌*◌, ◌<◌, Bool, if◌then◌else◌, List, [], ◌∷◌, ◌++◌, length, map, slice_get, slice_set, slice_index, slice_index_or, Option, Some, None, Contains, All, replicate}
+use Rattle.std.specs.Prelude.{◌≡◌, ℕ, suc, ◌+◌, ◌*◌, ◌<◌, Bool, false, if◌then◌else◌, List, [], ◌∷◌, ◌++◌, length, map, slice_get, slice_set, slice_index, slice_index_or, Option, Some, None, All, replicate}
 use Rattle.list_machine.specs.Words.{Word, blank, holding, raised}
 use Rattle.list_words.specs.Store.{Seat, Store, is_shut}
 use Rattle.list_words.specs.declared.plain_filer.PlainReader.{PlainReader}
 use Rattle.list_words.specs.Filing.{Filing}
-use Rattle.list_words.specs.PlainRows.{PlainList, no_list, row_of, items_of, emptied_list}
+use Rattle.list_words.specs.PlainRows.{PlainList, no_list, row_of, emptied_list}
 use Rattle.list_words.specs.declared.leaf_lists.Answer.{Answer}
 use Rattle.list_words.specs.declared.leaf_lists.Filed.{Filed}
 use Rattle.list_words.specs.declared.leaf_lists.Filed.TheVariants.{At, Late}
-use Rattle.list_words.specs.declared.leaf_lists.Phase.TheVariants.{Shut}
+use Rattle.list_words.specs.declared.leaf_lists.Phase.TheVariants.{Open, Shut}
 
 -- the lists, how many chunks there are and how many are free, the shut lists in order and how many of them are
 -- cleared, who is out by birth, room for the next filer, and how many slots were granted in all
@@ -39,17 +39,9 @@ fresh_plain lists chunks = record { lists = replicate lists no_list; chunks = ch
 abbrev pub all_chunks : PlainList → List ℕ
 all_chunks p = p.claimed ++ p.owned
 
--- the item stands in a slot of the list, as it was filed or placed there
-abbrev pub Knows : Plain → ℕ → ℕ → Type 0
-Knows p l x = Contains (items_of (list_in p.lists l)) x × (0 < length (all_chunks (list_in p.lists l)))
-
 -- the items filed in the claimed slots of each list stay
 abbrev pub SameFiled : Plain → Plain → Type 0
 SameFiled p q = (l : ℕ) → (list_in q.lists l).filed ≡ (list_in p.lists l).filed
-
--- who a reader is
-abbrev pub seat_of : PlainReader → Seat
-seat_of r = record { name = []; birth = r.birth }
 
 -- the lists with this one in the place of the list l
 abbrev pub with_list : Plain → ℕ → PlainList → Plain
@@ -78,18 +70,42 @@ word_with shut (Some item) = if shut then raised (holding item) else holding ite
 abbrev pub slot_word : PlainList → Bool → ℕ → ℕ → Word
 slot_word p owned r i = word_with (is_shut p.phase) (slice_get (chain_items owned p) (256 * r + i))
 
--- ---- answers that are borne out
+-- ---- items that stand
 
--- the item stands in the slot of the chunk, which is one of the claimed chain
-pub record StandsAt (p : PlainList) (item c i : ℕ) : Type 0 where
+-- the item stands in the slot of the chunk, which is one of this chain
+pub record StandsAt (owned : Bool) (p : PlainList) (item c i : ℕ) : Type 0 where
   pub rank : ℕ
-  pub chunk : slice_get p.claimed rank ≡ Some c
+  pub chunk : slice_get (chain owned p) rank ≡ Some c
   pub within : i < 256
-  pub stands : slice_get p.filed (256 * rank + i) ≡ Some item
+  pub stands : slice_get (chain_items owned p) (256 * rank + i) ≡ Some item
+
+-- the item stands in a slot of the chunk, which is one of the list's
+abbrev pub StandsIn : PlainList → ℕ → ℕ → Type 0
+StandsIn p c item = (owned : Bool) × (i : ℕ) × StandsAt owned p item c i
+
+-- the owner knows each item of a list, as it was filed or placed there
+abbrev pub Knows : Plain → ℕ → ℕ → ℕ → Type 0
+Knows p l c x = StandsIn (list_in p.lists l) c x
+
+-- how many places were claimed in a list: each has its item
+abbrev pub claims_in : Plain → ℕ → ℕ
+claims_in p l = length (list_in p.lists l).filed
+
+-- ---- readers
+
+-- who a reader is
+abbrev pub seat_of : PlainReader → Seat
+seat_of r = record { name = []; birth = r.birth }
+
+-- the item stood in a slot of the chunk, in a list that was open, when the reader was made
+abbrev pub Saw : PlainReader → ℕ → ℕ → Type 0
+Saw r c x = (l : ℕ) × ((list_in r.lists.value.items l).phase ≡ Open) × StandsIn (list_in r.lists.value.items l) c x
+
+-- ---- answers that are borne out
 
 -- the answer to a filing of the item is borne out: the item stands where it says, or the list is shut
 abbrev pub Bears : PlainList → ℕ → Filed → Type 0
-Bears p item (At c i) = StandsAt p item c i
+Bears p item (At c i) = StandsAt false p item c i
 Bears p item (Late seen) = p.phase ≡ Shut
 
 -- somebody with the filer's birth is out, and each answer is borne out

@@ -1,5 +1,5 @@
 -- The lists of leaves as plain data.
-use Rattle.std.specs.Prelude.{◌≡◌, ℕ, suc, ◌+◌, ◌-◌, ◌*◌, ◌<◌, ◌≤◌, Bool, true, false, if◌then◌else◌, max, List, [], ◌∷◌, ◌++◌, length, take, drop, sum, sum_by, slice_set, slice_index, slice_index_or, Option, Contains, AllPairs, ◌≢◌, All}
+use Rattle.std.specs.Prelude.{◌≡◌, ℕ, suc, ◌+◌, ◌-◌, ◌*◌, ◌/◌, ◌%◌, ◌<◌, ◌≤◌, ◌⊎◌, Bool, true, false, if◌then◌else◌, max, List, [], ◌∷◌, ◌++◌, length, take, drop, sum, sum_by, slice_get, slice_set, slice_index, slice_index_or, Option, Some, Contains, AllPairs, ◌≢◌, All}
 use Rattle.std.specs.List.{filter_map}
 use Rattle.list_machine.specs.declared.views.Grant.{Grant}
 use Rattle.list_machine.specs.Grants.{granted_in_all}
@@ -160,6 +160,16 @@ pub record MayAdmit (s : Store) (gs : List Grant) : Type 0 where
   pub few : s.given + granted_in_all gs < 2147483648
   pub seats : seats_out s < 18446744073709551615
 
+-- all of a row but what was granted
+pub record SameBesidesGranted (a b : Row) : Type 0 where
+  pub phase : a.phase ≡ b.phase
+  pub claimed : a.claimed ≡ b.claimed
+  pub owned : a.owned ≡ b.owned
+  pub placed : a.placed ≡ b.placed
+  pub marked : a.marked ≡ b.marked
+  pub claimed_room : a.claimed_room ≡ b.claimed_room
+  pub owned_room : a.owned_room ≡ b.owned_room
+
 -- ---- clearing
 
 -- whether a list at this phase was shut
@@ -202,6 +212,10 @@ pub record IsReclaimed (old new : Store) : Type 0 where
   pub free : new.free + held_of new ≡ old.free + held_of old
   pub rest : new ≡ record old { rows = clear_rows (drop old.cleared (take new.cleared old.order)) old.rows; free = new.free; cleared = new.cleared }
 
+-- a row is as it was, or that of the list once it is cleared
+abbrev pub IsKeptOrCleared : Row → Row → Type 0
+IsKeptOrCleared a b = (b ≡ a) ⊎ (b ≡ emptied a)
+
 -- a list whose clearing is done
 abbrev pub IsCleared : Store → ℕ → Type 0
 IsCleared s l = Contains (take s.cleared s.order) l
@@ -213,6 +227,25 @@ pub record Seat : Type 0 where
   pub name : List ℕ
   pub birth : ℕ
 
--- no item of a list is forgotten
-abbrev pub Keeps : (ℕ → ℕ → Type 0) → (ℕ → ℕ → Type 0) → Type 0
-Keeps before after = (l x : ℕ) → before l x → after l x
+-- of no item is it forgotten in which chunk of its list it stands
+abbrev pub Keeps : (ℕ → ℕ → ℕ → Type 0) → (ℕ → ℕ → ℕ → Type 0) → Type 0
+Keeps before after = (l c x : ℕ) → before l c x → after l c x
+
+-- What a sweep showed of the slots of its list, where `shows c k y` says what is known of the slot k of the chunk c: this
+-- item, or that it was marked while it was empty. There is one mark for each claim that the shut found, each of the claimed
+-- slot at its place, and each placed item is known in the owned slot at its place.
+pub record AreMarks (shows : ℕ → ℕ → Option ℕ → Type 0) (claims : ℕ) (r : Row) : Type 0 where
+  pub counted : length r.marked ≡ claims
+  pub claimed : (i : ℕ) (y : Option ℕ) → slice_get r.marked i ≡ Some y → (c : ℕ) × (slice_get r.claimed (i / 256) ≡ Some c) × shows c (i % 256) y
+  pub owned : (i x : ℕ) → slice_get r.placed i ≡ Some x → (c : ℕ) × (slice_get r.owned (i / 256) ≡ Some c) × shows c (i % 256) (Some x)
+
+-- the item that was filed is known to stand in the chunk, which has its place in the claimed chain, and if the list is shut, its sweep appended it
+pub record IsStanding (known : ℕ → ℕ → Type 0) (r : Row) (c x : ℕ) : Type 0 where
+  pub known_there : known c x
+  pub rank : ℕ
+  pub chunk : slice_get r.claimed rank ≡ Some c
+  pub found : r.phase ≡ Shut → Contains (found_in r) x
+
+-- the item that a slot of the chunk showed, if any, is known to stand in the chunk
+abbrev pub Stood : (ℕ → ℕ → Type 0) → ℕ → ℕ → Option ℕ → Type 0
+Stood known c k y = (x : ℕ) → y ≡ Some x → known c x

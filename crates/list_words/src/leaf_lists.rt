@@ -1,7 +1,7 @@
-ghost use Rattle.std.specs.Prelude.{◌≡◌, ℕ, ◌+◌, ◌-◌, ◌*◌, ◌/◌, ◌%◌, ◌<◌, ◌≤◌, List, [], ◌++◌, length, Option, Some, OnOk, OnErr, IsTrue, Contains, slice_get, vec_len};
+ghost use Rattle.std.specs.Prelude.{◌≡◌, ℕ, ◌+◌, ◌-◌, ◌*◌, ◌/◌, ◌%◌, ◌<◌, ◌≤◌, ◌↔◌, List, [], ◌++◌, length, Option, Some, OnOk, OnErr, IsTrue, Contains, slice_get, vec_len};
 ghost use Rattle.std.specs.Vec.{vec_capacity};
 ghost use Rattle.list_words.specs.Filing.{Filing};
-ghost use Rattle.list_words.specs.Store.{Store, Row, Seat, MayAdmit, ClearsTo, IsCleared, IsInNoChain, IsOpen, IsReclaimed, IsShut, Keeps, row, with_row, with_chunk, with_filer_room, roomier, opened, linked, lengthened, placed_in, shut_now, found_in, chunks_of, admitted, one_more, one_less, birth_now, seats_out, held_of};
+ghost use Rattle.list_words.specs.Store.{Store, Row, Seat, AreMarks, IsStanding, Stood, MayAdmit, ClearsTo, IsCleared, IsInNoChain, IsOpen, IsReclaimed, IsShut, Keeps, row, with_row, with_chunk, with_filer_room, roomier, opened, linked, lengthened, placed_in, shut_now, found_in, chunks_of, admitted, one_more, one_less, birth_now, seats_out, held_of};
 ghost use Rattle.list_words.specs.declared.leaf_lists.Answer.{Answer};
 ghost use Rattle.list_words.specs.declared.leaf_lists.Seen.{Seen};
 ghost use Rattle.list_words.specs.declared.leaf_lists.Filed.TheVariants.{At, Late};
@@ -52,32 +52,39 @@ pub trait Filings {
     ghost use Rattle.list_words.specs.Filing.{Filing};
 
     ghost filing: { Self → Filing };
+
+    /// What the filings answered, in order.
+    fn answers(&self) -> &[Answer]
+        ensures { result.now ≡ (filing self.now).answers };
 }
 
 /// The lists of leaves. Each list has two chains of chunks with 256 slots a chunk: loaders claim slots in the
 /// claimed chain and file items there, and the owner of the lists places items in the owned chain.
 ///
 /// Contracts see all lists as one store. A call changes only what its clauses name. The owner may know that an
-/// item stands in a list, and forgets none before the list is cleared.
+/// item stands in a chunk of a list, and forgets none before the list is cleared.
 pub trait LeafLists {
     ghost use Rattle.std.specs.Prelude.{ℕ};
     ghost use Rattle.list_words.specs.Store.{Seat, Store};
 
     /// What files items into claimed slots.
-    type Filer: Filings;
+    type Filer: Filings + Drop;
 
     /// What reads slots.
-    type Reader;
+    type Reader: Drop;
 
     ghost store: { Self → Store };
 
-    // the owner knows that the item stands in the list
-    ghost knows: { Self → ℕ → ℕ → Type 0 };
+    // the owner knows that the item stands in a slot of the chunk, which is one of the list's: list, chunk, item
+    ghost knows: { Self → ℕ → ℕ → ℕ → Type 0 };
+
+    // how many places of the list's claimed chain were claimed when it was shut
+    ghost claims: { Self → ℕ → ℕ };
 
     // who the reader is
     ghost seat: { Self.Reader → Seat };
 
-    // the reader knows that a slot of the chunk has the item
+    // the reader knows that a slot of the chunk has the item: chunk, item
     ghost sees: { Self.Reader → ℕ → ℕ → Type 0 };
 
     // the slots and claim words that the answers of the filer name bear them out
@@ -134,17 +141,21 @@ pub trait LeafLists {
         ensures store { store self.new ≡ with_row (store self.old) list (placed_in (row (store self.old) list) item) }
         ensures chunk { slice_get (row (store self.old) list).owned (length (row (store self.old) list).placed / 256) ≡ Some result.0 }
         ensures slot { result.1 ≡ length (row (store self.old) list).placed % 256 }
-        ensures placed { knows self.new list item }
+        ensures placed { knows self.new list result.0 item }
         ensures known { Keeps (knows self.old) (knows self.new) };
 
     /// Shuts the list, marks its slots as moved, and appends the item of each slot in which the mark found one,
-    /// in the order of the claimed slots and then of the owned ones. It takes no memory.
+    /// in the order of the claimed slots and then of the owned ones. It marks each place that was claimed before the
+    /// shut, and what it appends is known to stand. It takes no memory.
     fn shut_and_sweep(&mut self, list: u32, out: &mut Vec<u32>)
         requires takes { IsOpen (store self.old) list }
         requires room { vec_len out.old + 256 * length (chunks_of (row (store self.old) list)) ≤ vec_capacity out.old }
         ensures store { (marked : List (Option ℕ)) × (length marked ≤ (row (store self.old) list).granted) × (store self.new ≡ shut_now (store self.old) list marked) }
         ensures found { out.new.items ≡ out.old.items ++ found_in (row (store self.new) list) }
-        ensures swept { (x : ℕ) → knows self.old list x → Contains (found_in (row (store self.new) list)) x }
+        ensures marks { AreMarks (Stood (knows self.new list)) (claims self.new list) (row (store self.new) list) }
+        ensures stands { (x : ℕ) → Contains (found_in (row (store self.new) list)) x → (c : ℕ) × knows self.new list c x }
+        ensures swept { (c x : ℕ) → knows self.old list c x → Contains (found_in (row (store self.new) list)) x }
+        ensures capacity { vec_capacity out.old ≤ vec_capacity out.new }
         ensures known { Keeps (knows self.old) (knows self.new) };
 
     /// Makes room for one filer with so many grants and the answers of so many items.
@@ -163,32 +174,33 @@ pub trait LeafLists {
     /// Whether the slots and claim words that the filer's answers name bear these out.
     fn vouches(&self, filer: &Self::Filer) -> bool
         requires { (Self.Filer.filing filer.now).name ≡ (store self.now).name }
-        ensures { IsTrue result → borne_out self.now filer.now };
+        ensures { IsTrue result ↔ borne_out self.now filer.now };
 
-    /// Takes a filer back. Each item that it filed is one that the owner knows to stand in its list and, where the
-    /// list is shut and not cleared, one that its sweep appended. Each list in which an item came late is shut.
+    /// Takes a filer back. Each item that it filed is one that the owner knows to stand in the chunk that the answer
+    /// names, which has its place in the list's claimed chain, and, where the list is shut, one that its sweep
+    /// appended. Each list in which an item came late is shut.
     fn take_back(&mut self, filer: Self::Filer)
         requires name { (Self.Filer.filing filer).name ≡ (store self.old).name }
         requires borne_out { borne_out self.old filer }
         ensures store { store self.new ≡ one_less (store self.old) (Self.Filer.filing filer).birth }
-        ensures filed { (a : Answer) (c k : ℕ) → Contains (Self.Filer.filing filer).answers a → a.filed ≡ At c k → knows self.new a.list a.item × (IsShut (store self.old) a.list → Contains (found_in (row (store self.old) a.list)) a.item) }
+        ensures filed { (a : Answer) (c k : ℕ) → Contains (Self.Filer.filing filer).answers a → a.filed ≡ At c k → IsStanding (knows self.new a.list) (row (store self.old) a.list) c a.item }
         ensures late { (a : Answer) (s : Seen) → Contains (Self.Filer.filing filer).answers a → a.filed ≡ Late s → IsShut (store self.old) a.list }
         ensures known { Keeps (knows self.old) (knows self.new) };
 
     /// Makes a reader, which is out until it is unpinned. It knows each item that the owner knows to stand in a
-    /// list that is open. It takes no memory.
+    /// chunk of a list that is open. It takes no memory.
     fn note(&mut self) -> Self::Reader
         requires { seats_out (store self.old) < 18446744073709551615 }
         ensures store { store self.new ≡ one_more (store self.old) }
         ensures reader { seat result ≡ record { name = (store self.old).name; birth = birth_now (store self.old) } }
-        ensures sees { (l x : ℕ) → IsOpen (store self.old) l → knows self.old l x → (c : ℕ) × Contains (chunks_of (row (store self.old) l)) c × sees result c x }
+        ensures sees { (l c x : ℕ) → IsOpen (store self.old) l → knows self.old l c x → Contains (chunks_of (row (store self.old) l)) c × sees result c x }
         ensures known { Keeps (knows self.old) (knows self.new) };
 
     /// Clears the shut lists that are not cleared, in the order in which they were shut, up to the first that a
     /// reader or filer which is out may reach, and gives their chunks back. It takes no memory.
     fn reclaim(&mut self)
         ensures store { IsReclaimed (store self.old) (store self.new) }
-        ensures known { (l x : ℕ) → (IsCleared (store self.new) l → ⊥) → knows self.old l x → knows self.new l x };
+        ensures known { (l c x : ℕ) → (IsCleared (store self.new) l → ⊥) → knows self.old l c x → knows self.new l c x };
 
     /// How many chunks the lists have that are shut and not cleared.
     fn held(&self) -> u32

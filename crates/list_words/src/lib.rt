@@ -2,6 +2,7 @@
 #![tactic(auto)]
 
 mod births;
+mod laws;
 mod leaf_lists;
 mod plain_filer;
 mod plain_homes;
@@ -13,6 +14,10 @@ mod tests;
 mod within;
 
 pub use births::count_off;
+pub use laws::{
+    rows_after_a_change, rows_after_a_link, rows_after_a_reclaim, rows_after_a_shut,
+    rows_after_grants,
+};
 pub use leaf_lists::{Answer, Filed, Filings, LeafLists, Phase, Seen};
 pub use list_machine::Grant;
 pub use plain_filer::{PlainFiler, PlainReader};

@@ -3,9 +3,11 @@ ghost use Rattle.std.specs.Vec.{vec_capacity};
 ghost use Rattle.list_machine.specs.Grants.{granted_in_all};
 ghost use Rattle.list_words.specs.Filing.{HasGrant, answered};
 
+use crate::plain_row::PlainRow;
 use crate::within::push_within;
 use crate::{Answer, Filed, Filings, Grant};
 use std::marker::Model;
+use std::snapshot::Snapshot;
 
 /// A filer of lists over vectors.
 #[derive(Drop)]
@@ -29,6 +31,10 @@ impl Model for PlainFiler {
 
 impl Filings for PlainFiler {
     ghost filing = { λ f. f };
+
+    fn answers(&self) -> &[Answer] {
+        &self.answers
+    }
 }
 
 impl PlainFiler {
@@ -51,12 +57,6 @@ impl PlainFiler {
         self.birth
     }
 
-    pub fn answers(&self) -> &[Answer]
-        ensures { result.now ≡ self.now.answers }
-    {
-        &self.answers
-    }
-
     /// Uses one grant of the list, and keeps the answer.
     pub fn record(&mut self, list: u32, item: u32, filed: Filed)
         requires { HasGrant self.old list }
@@ -66,8 +66,10 @@ impl PlainFiler {
     }
 }
 
-/// A reader of lists over vectors, which keeps its birth alone: such lists are read by their owner.
+/// A reader of lists over vectors. Such lists are read by their owner, so it keeps its birth alone. Contracts see the
+/// lists as they were when it was made, too.
 #[derive(Drop)]
 pub struct PlainReader {
     pub birth: u32,
+    pub(crate) lists: Snapshot<Vec<PlainRow>>,
 }

@@ -3,10 +3,10 @@ ghost use Rattle.list_machine.specs.Words.{decode};
 ghost use Rattle.list_machine.specs.declared.views.Grant.{Grant};
 ghost use Rattle.list_machine.specs.Grants.{granted_in_all};
 ghost use Rattle.list_words.specs.Filing.{HasGrant, answered};
-ghost use Rattle.list_words.specs.Plain.{Bears, BearsOut, Knows, SameFiled, chunk_at, fresh_plain, list_in, next_cleared, next_list, seat_of, slot_word, store_of, with_list};
+ghost use Rattle.list_words.specs.Plain.{Bears, BearsOut, Knows, SameFiled, Saw, chunk_at, claims_in, fresh_plain, list_in, next_cleared, next_list, seat_of, slot_word, store_of, with_list};
 ghost use Rattle.list_words.specs.PlainRows.{filed_list, items_of, no_list};
 ghost use Rattle.list_words.specs.PlainGrants.{MayGrant, grant_lists};
-ghost use Rattle.list_words.specs.Store.{IsCleared, IsInNoChain, IsOpen, IsReclaimed, IsShut, Keeps, MayAdmit, Unreached, admitted, birth_now, chunks_of, found_in, lengthened, linked, one_less, one_more, opened, placed_in, roomier, row, seats_out, shut_now, with_chunk, with_filer_room, with_row};
+ghost use Rattle.list_words.specs.Store.{AreMarks, IsCleared, IsInNoChain, IsOpen, IsReclaimed, IsShut, IsStanding, Keeps, MayAdmit, Stood, Unreached, admitted, birth_now, chunks_of, found_in, lengthened, linked, one_less, one_more, opened, placed_in, roomier, row, seats_out, shut_now, with_chunk, with_filer_room, with_row};
 ghost use Rattle.list_words.specs.declared.leaf_lists.Filed.TheVariants.{At, Late};
 ghost use Rattle.list_words.specs.declared.leaf_lists.Answer.{Answer};
 ghost use Rattle.list_words.specs.declared.leaf_lists.Seen.{Seen};
@@ -19,11 +19,12 @@ use crate::plain_filer::PlainReader;
 use crate::plain_homes::Home;
 use crate::plain_row::PlainRow;
 use crate::within::{append_within, push_within};
-use crate::{Answer, Filed, Grant, LeafLists, Phase, PlainFiler};
+use crate::{Answer, Filed, Filings, Grant, LeafLists, Phase, PlainFiler};
 use chunk_pool::Pool;
 use std::alloc::{AllocError, Global};
 use std::marker::Model;
 use std::mem;
+use std::snapshot::Snapshot;
 
 #[cfg(test)]
 mod parts;
@@ -168,7 +169,7 @@ impl PlainLists {
 }
 
 impl LeafLists for PlainLists {
-    ghost use Rattle.list_words.specs.Plain.{Knows, BearsOut, seat_of, store_of};
+    ghost use Rattle.list_words.specs.Plain.{Knows, BearsOut, Saw, claims_in, seat_of, store_of};
 
     type Filer = PlainFiler;
 
@@ -178,10 +179,11 @@ impl LeafLists for PlainLists {
 
     ghost knows = { Knows };
 
+    ghost claims = { claims_in };
+
     ghost seat = { seat_of };
 
-    // such lists are read by their owner alone, so of a reader nothing is to be said
-    ghost sees = { λ _ _ _. Unit {0} };
+    ghost sees = { Saw };
 
     ghost borne_out = { BearsOut };
 
@@ -268,7 +270,7 @@ impl LeafLists for PlainLists {
         ensures store { store_of self.new ≡ with_row (store_of self.old) list (placed_in (row (store_of self.old) list) item) }
         ensures chunk { slice_get (row (store_of self.old) list).owned (length (row (store_of self.old) list).placed / 256) ≡ Some result.0 }
         ensures slot { result.1 ≡ length (row (store_of self.old) list).placed % 256 }
-        ensures placed { Knows self.new list item }
+        ensures placed { Knows self.new list result.0 item }
         ensures known { Keeps (Knows self.old) (Knows self.new) }
         ensures same_filed { SameFiled self.old self.new }
     {
@@ -281,7 +283,10 @@ impl LeafLists for PlainLists {
         requires room { vec_len out.old + 256 * length (chunks_of (row (store_of self.old) list)) ≤ vec_capacity out.old }
         ensures store { (marked : List (Option ℕ)) × (length marked ≤ (row (store_of self.old) list).granted) × (store_of self.new ≡ shut_now (store_of self.old) list marked) }
         ensures found { out.new.items ≡ out.old.items ++ found_in (row (store_of self.new) list) }
-        ensures swept { (x : ℕ) → Knows self.old list x → Contains (found_in (row (store_of self.new) list)) x }
+        ensures marks { AreMarks (Stood (Knows self.new list)) (claims_in self.new list) (row (store_of self.new) list) }
+        ensures stands { (x : ℕ) → Contains (found_in (row (store_of self.new) list)) x → (c : ℕ) × Knows self.new list c x }
+        ensures swept { (c x : ℕ) → Knows self.old list c x → Contains (found_in (row (store_of self.new) list)) x }
+        ensures capacity { vec_capacity out.old ≤ vec_capacity out.new }
         ensures known { Keeps (Knows self.old) (Knows self.new) }
         ensures same_filed { SameFiled self.old self.new }
         ensures all { out.new.items ≡ out.old.items ++ items_of (list_in self.old.lists list) }
@@ -345,7 +350,7 @@ impl LeafLists for PlainLists {
         requires name { filer.name ≡ (store_of self.old).name }
         requires borne_out { BearsOut self.old filer }
         ensures store { store_of self.new ≡ one_less (store_of self.old) filer.birth }
-        ensures filed { (a : Answer) (c k : ℕ) → Contains filer.answers a → a.filed ≡ At c k → Knows self.new a.list a.item × (IsShut (store_of self.old) a.list → Contains (found_in (row (store_of self.old) a.list)) a.item) }
+        ensures filed { (a : Answer) (c k : ℕ) → Contains filer.answers a → a.filed ≡ At c k → IsStanding (Knows self.new a.list) (row (store_of self.old) a.list) c a.item }
         ensures late { (a : Answer) (s : Seen) → Contains filer.answers a → a.filed ≡ Late s → IsShut (store_of self.old) a.list }
         ensures known { Keeps (Knows self.old) (Knows self.new) }
         ensures same_filed { SameFiled self.old self.new }
@@ -359,19 +364,22 @@ impl LeafLists for PlainLists {
         requires { seats_out (store_of self.old) < 18446744073709551615 }
         ensures store { store_of self.new ≡ one_more (store_of self.old) }
         ensures reader { seat_of result ≡ record { name = (store_of self.old).name; birth = birth_now (store_of self.old) } }
-        ensures sees { (l x : ℕ) → IsOpen (store_of self.old) l → Knows self.old l x → (c : ℕ) × Contains (chunks_of (row (store_of self.old) l)) c × Unit {0} }
+        ensures sees { (l c x : ℕ) → IsOpen (store_of self.old) l → Knows self.old l c x → Contains (chunks_of (row (store_of self.old) l)) c × Saw result c x }
         ensures known { Keeps (Knows self.old) (Knows self.new) }
         ensures same_filed { SameFiled self.old self.new }
     {
         let now = self.order.len();
         self.out[now] += 1;
         self.seats += 1;
-        PlainReader { birth: now as u32 }
+        PlainReader {
+            birth: now as u32,
+            lists: Snapshot::of(&self.rows),
+        }
     }
 
     fn reclaim(&mut self)
         ensures store { IsReclaimed (store_of self.old) (store_of self.new) }
-        ensures known { (l x : ℕ) → (IsCleared (store_of self.new) l → ⊥) → Knows self.old l x → Knows self.new l x }
+        ensures known { (l c x : ℕ) → (IsCleared (store_of self.new) l → ⊥) → Knows self.old l c x → Knows self.new l c x }
         ensures stays { (l : ℕ) → (IsCleared (store_of self.new) l → ⊥) → list_in self.new.lists l ≡ list_in self.old.lists l }
     {
         while self.may_clear() {

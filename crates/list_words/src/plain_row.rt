@@ -215,6 +215,9 @@ impl PlainRow {
         ensures shut { self.new ≡ shut_list self.old }
         ensures found { out.new.items ≡ out.old.items ++ items_of self.old }
         ensures granted { length self.old.filed ≤ self.old.granted }
+        ensures filed { length self.old.filed ≤ 256 * length self.old.claimed }
+        ensures placed { length self.old.placed ≤ 256 * length self.old.owned }
+        ensures capacity { vec_capacity out.old ≤ vec_capacity out.new }
     {
         self.phase = Phase::Shut;
         append_within(out, &self.filed);

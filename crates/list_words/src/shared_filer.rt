@@ -1,4 +1,5 @@
 ghost use Rattle.std.specs.Prelude.{◌≡◌, ℕ, ◌+◌, ◌<◌, ◌≤◌};
+ghost use Rattle.list_words.specs.declared.leaf_lists.Filed.{Filed};
 ghost use Rattle.list_words.specs.Filing.{HasGrant, answered};
 
 use crate::{Filed, Filings};
@@ -19,12 +20,18 @@ pub trait ListsOf {
 /// A filer of lists that are shared: it files while others file, and waits for nobody.
 pub trait SharedFiler: Filings {
     ghost use Rattle.std.specs.Prelude.{ℕ};
+    ghost use Rattle.list_words.specs.declared.leaf_lists.Filed.{Filed};
 
     /// The lists.
     type Lists: ListsOf;
 
     // how many links it has walked
     ghost walked: { Self → ℕ };
+
+    // What the filer knows bears the answer out that a filing of the item in the list had: after `At` that the item
+    // stands in that slot, after `Shut` that the list is shut, and after `Moved` that the slot was marked while it
+    // was empty.
+    ghost shows: { Self → ℕ → ℕ → Filed → Type 0 };
 
     /// Claims the next slot of the list and files the item there. It uses one grant of the list.
     ///
@@ -39,6 +46,8 @@ pub trait SharedFiler: Filings {
         requires name { (Self.filing self.old).name ≡ Self.Lists.name lists.now }
         requires granted { HasGrant (Self.filing self.old) list }
         ensures answered { Self.filing self.new ≡ answered (Self.filing self.old) list item result }
+        ensures shown { shows self.new list item result }
+        ensures kept { (l x : ℕ) (filed : Filed) → shows self.old l x filed → shows self.new l x filed }
         ensures rises { walked self.old ≤ walked self.new }
         ensures most { walked self.new ≤ Self.Lists.chunks lists.now }
         ensures counts { steps.old ≤ steps.new }

@@ -5,7 +5,7 @@ ghost use Rattle.worked_lists.specs.Workers.{AreLeft};
 
 use chunk_lists::{Filer, Lists};
 use dice::Dice;
-use list_words::{Answer, SharedFiler};
+use list_words::{Answer, Filings, SharedFiler};
 use std::alloc::{AllocError, Global};
 use std::marker::{Brand, Model};
 use std::sync::ledger::{Blank, Ledger};

@@ -1,8 +1,8 @@
 use Rattle.std.proofs.Common.{◌≡◌, ◌+◌, ◌*◌, ◌<◌, ◌≤◌, length, vec_len, ap, sym, subst, ◌∙◌, arith}
 use Rattle.std.proofs.lemmas.List.{length-append}
 use Rattle.std.specs.Vec.{vec_capacity}
-use Rattle.list_words.specs.Store.{Store, Row, IsOpen, chunks_of, placed_in, row}
-use Rattle.list_words.proofs.RowLaws.{SameBesidesGranted, open_row, row-grant_rows, row-with_row}
+use Rattle.list_words.specs.Store.{Store, Row, IsOpen, SameBesidesGranted, chunks_of, placed_in, row}
+use Rattle.list_words.proofs.RowLaws.{open_row, row-grant_rows, row-with_row}
 use Rattle.list_words.proofs.tests.sweep_while_a_filer_is_out.Goals as goal
 
 pub place-requires-clause-takes : goal.place-requires-clause-takes

@@ -78,10 +78,10 @@ returns-clause-below c =
     subst (λ k. c.args.list < length (store_of k).rows) c.self.view_is (omega (arith, low, long, rows, next))
 
 pub returns-clause-known : goal.returns-clause-known
-returns-clause-known c h y other q =
+returns-clause-known c h d y other q =
     let i = c.self.inside in let g = i.seat.ledger in let b = i.book in let t = c.self.invariant.tied in let n = i.lists.value.lists in let m = i.lists.value.chunks in
     let may = subst (λ k. MayClearNext k.book) (sym c.self.view_is) c.requires.may in
     let next = c.requires.next ∙ ap (λ k. next_in_order k.book) (sym c.self.view_is) in
-    let z = subst (λ k. KnownIn k h y) (sym c.self.view_is) q in
-    let stay = others_stay c.args.list g.owner.facts h other (Item h z.0 z.1 y) refl z.2 in
-    subst (λ (o : Ledger). KnownIn (record { name = i.seat.name; ledger = o; book = i.book }) h y) (sym c.wipe.ensures.ledger) (z.0, z.1, stay)
+    let z = subst (λ k. KnownIn k h d y) (sym c.self.view_is) q in
+    let stay = others_stay c.args.list g.owner.facts h other (Item h d z.0 y) refl z.1 in
+    subst (λ (o : Ledger). KnownIn (record { name = i.seat.name; ledger = o; book = i.book }) h d y) (sym c.wipe.ensures.ledger) (z.0, stay)

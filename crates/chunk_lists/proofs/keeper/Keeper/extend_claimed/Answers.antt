@@ -109,6 +109,6 @@ returns-clause-store c =
     )
 
 pub returns-clause-known : goal.returns-clause-known
-returns-clause-known c h y q =
+returns-clause-known c h d y q =
     let i = c.self.inside in
-    subst (λ (o : Ledger). KnownIn (record { name = i.seat.name; ledger = o; book = i.book }) h y) (sym c.link.ensures.ledger) (let z = subst (λ k. KnownIn k h y) (sym c.self.view_is) q in (z.0, z.1, (suc z.2.0, z.2.1)))
+    subst (λ (o : Ledger). KnownIn (record { name = i.seat.name; ledger = o; book = i.book }) h d y) (sym c.link.ensures.ledger) (let z = subst (λ k. KnownIn k h d y) (sym c.self.view_is) q in (z.0, (suc z.1.0, z.1.1)))

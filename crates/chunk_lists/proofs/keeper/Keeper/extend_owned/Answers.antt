@@ -69,6 +69,6 @@ returns-clause-store c =
     )
 
 pub returns-clause-known : goal.returns-clause-known
-returns-clause-known c h y q =
+returns-clause-known c h d y q =
     let i = c.self.inside in
-    subst (λ (o : Ledger). KnownIn (record { name = i.seat.name; ledger = o; book = i.book }) h y) (sym c.adopt.ensures.ledger) (subst (λ k. KnownIn k h y) (sym c.self.view_is) q)
+    subst (λ (o : Ledger). KnownIn (record { name = i.seat.name; ledger = o; book = i.book }) h d y) (sym c.adopt.ensures.ledger) (subst (λ k. KnownIn k h d y) (sym c.self.view_is) q)

@@ -93,9 +93,9 @@ returns-clause-slot c =
 pub returns-clause-placed : goal.returns-clause-placed
 returns-clause-placed c =
     let i = c.self.inside in let q = c.use_slot-chunk.result in
-    subst (λ (o : Ledger). KnownIn (record { name = i.seat.name; ledger = o; book = i.book }) c.args.list c.args.item) (sym c.place.ensures.ledger) (q.0, q.1, (zero, refl))
+    subst (λ (o : Ledger). KnownIn (record { name = i.seat.name; ledger = o; book = i.book }) c.args.list q.0 c.args.item) (sym c.place.ensures.ledger) (q.1, (zero, refl))
 
 pub returns-clause-known : goal.returns-clause-known
-returns-clause-known c h y q =
+returns-clause-known c h d y q =
     let i = c.self.inside in
-    subst (λ (o : Ledger). KnownIn (record { name = i.seat.name; ledger = o; book = i.book }) h y) (sym c.place.ensures.ledger) (let z = subst (λ k. KnownIn k h y) (sym c.self.view_is) q in (z.0, z.1, (suc z.2.0, z.2.1)))
+    subst (λ (o : Ledger). KnownIn (record { name = i.seat.name; ledger = o; book = i.book }) h d y) (sym c.place.ensures.ledger) (let z = subst (λ k. KnownIn k h d y) (sym c.self.view_is) q in (z.0, (suc z.1.0, z.1.1)))

@@ -5,12 +5,12 @@ use Rattle.std.specs.List.{Contains}
 use Rattle.std.proofs.lemmas.List.{length-append}
 use Rattle.list_machine.specs.Facts.{IsAt}
 use Rattle.list_machine.specs.declared.views.Fact.TheVariants.{Item}
-use Rattle.list_words.specs.Store.{Row, row, row_in, chunks_of, found_in, shut_now}
+use Rattle.list_words.specs.Store.{Row, AreMarks, row, row_in, chunks_of, found_in, shut_now}
 use Rattle.list_words.specs.declared.leaf_lists.Phase.TheVariants.{Open, Shut}
-use Rattle.list_book.specs.Books.{book_row}
-use Rattle.list_table.specs.Ledgers.{leaf_of, notes_of}
-use Rattle.chunk_lists.specs.Keepers.{IsKeeper, KnownIn, rows_of, store_of}
-use Rattle.chunk_lists.proofs.Closings.{tied_then, found_then, store_shut, one_given}
+use Rattle.list_book.specs.Books.{BookValue, book_row}
+use Rattle.list_table.specs.Ledgers.{Knows, leaf_of, notes_of, shown}
+use Rattle.chunk_lists.specs.Keepers.{IsKeeper, KnownIn, claims_at, rows_of, store_of}
+use Rattle.chunk_lists.proofs.Closings.{tied_then, found_then, marks_then, store_shut, one_given}
 use Rattle.chunk_lists.proofs.Ties.{phase_is, open_below, open_phase, row_is}
 use Rattle.chunk_lists.proofs.keeper.Keeper.shut_and_sweep.Goals as goal
 
@@ -158,18 +158,31 @@ returns-clause-found c =
     x.6 ∙ ap (λ (ys : List ℕ). c.args.out.now.items ++ ys) (sym (found_then n m g b t c.shut_and_mark.new.seat.ledger l x.1 x.0 (x.0 + c.used-used.result) x.2 x.3 low unshut (ap (λ (u : ℕ). x.0 + u) c.used-used.ensures))
     ∙ (λ j. found_in (row_in (rows_of (sym c.shut.ensures j).rows c.shut_and_mark.new.seat.ledger.notes) l)))
 
-pub returns-clause-swept : goal.returns-clause-swept
-returns-clause-swept c y q =
+pub returns-clause-marks : goal.returns-clause-marks
+returns-clause-marks c =
     let i = c.self.inside in let g = i.seat.ledger in let b = i.book in let t = c.self.invariant.tied in let n = i.lists.value.lists in let m = i.lists.value.chunks in let l = c.args.list in
     let unshut = phase_is n m g b t l Open (subst (λ k. (row (store_of k) l).phase ≡ Open) (sym c.self.view_is) c.requires.takes) in
     let low = open_below n m g b t l unshut in
     let x = c.shut_and_mark.ensures.swept in
-    let z = subst (λ k. KnownIn k l y) (sym c.self.view_is) q in
+    let h = c.shut_and_mark.new.seat.ledger in
+    let one = (t.each l low).granted in
+    let granted = c.numbers_are_small.ensures.granted l (λ e. let no : Open ≡ Shut = sym unshut ∙ e in absurd (cc)) in
+    let few = x.5 in let used = c.numbers_are_small.ensures.used l in
+    subst (λ (v : BookValue). AreMarks (λ d j y. Knows h.owner.facts (shown l d j y)) (claims_at (leaf_of h l).stage) (row_in (rows_of v.rows h.notes) l)) (sym c.shut.ensures)
+    (marks_then n m g b t h l x.1 x.0 (x.0 + c.used-used.result) x.2 x.3 low unshut (ap (λ (u : ℕ). x.0 + u) c.used-used.ensures) c.notes_are_kept.ensures (omega (arith, few, one, granted)) used)
+
+pub returns-clause-swept : goal.returns-clause-swept
+returns-clause-swept c d y q =
+    let i = c.self.inside in let g = i.seat.ledger in let b = i.book in let t = c.self.invariant.tied in let n = i.lists.value.lists in let m = i.lists.value.chunks in let l = c.args.list in
+    let unshut = phase_is n m g b t l Open (subst (λ k. (row (store_of k) l).phase ≡ Open) (sym c.self.view_is) c.requires.takes) in
+    let low = open_below n m g b t l unshut in
+    let x = c.shut_and_mark.ensures.swept in
+    let z = subst (λ k. KnownIn k l d y) (sym c.self.view_is) q in
     subst (λ (ys : List ℕ). Contains ys y) (sym (found_then n m g b t c.shut_and_mark.new.seat.ledger l x.1 x.0 (x.0 + c.used-used.result) x.2 x.3 low unshut (ap (λ (u : ℕ). x.0 + u) c.used-used.ensures))
-    ∙ (λ j. found_in (row_in (rows_of (sym c.shut.ensures j).rows c.shut_and_mark.new.seat.ledger.notes) l))) (x.7 z.0 z.1 y z.2)
+    ∙ (λ j. found_in (row_in (rows_of (sym c.shut.ensures j).rows c.shut_and_mark.new.seat.ledger.notes) l))) (x.7 d z.0 y z.1)
 
 pub returns-clause-known : goal.returns-clause-known
-returns-clause-known c h y q =
+returns-clause-known c h d y q =
     let x = c.shut_and_mark.ensures.swept in
-    let z = subst (λ k. KnownIn k h y) (sym c.self.view_is) q in
-    (z.0, z.1, x.3.known (Item h z.0 z.1 y) (suc z.2.0, z.2.1))
+    let z = subst (λ k. KnownIn k h d y) (sym c.self.view_is) q in
+    (z.0, x.3.known (Item h d z.0 y) (suc z.1.0, z.1.1))

@@ -17,4 +17,4 @@ new-requires-clause-within c k d lt =
     omega (arith, low, rows, lists)
 
 pub returns-clause-known : goal.returns-clause-known
-returns-clause-known c h x q = c.lend-seat.ensures.known h x (subst (λ k. KnownIn k.keeper h x) (sym c.self.view_is) q)
+returns-clause-known c h d x q = c.lend-seat.ensures.known h d x (subst (λ k. KnownIn k.keeper h d x) (sym c.self.view_is) q)

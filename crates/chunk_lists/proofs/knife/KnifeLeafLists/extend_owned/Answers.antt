@@ -12,4 +12,4 @@ returns-clause-store c =
     (e.0, e.1, e.2, ap (λ (s : Store). with_room s r.grants r.items) e.3)
 
 pub returns-clause-known : goal.returns-clause-known
-returns-clause-known c h x q = c.extend_owned.ensures.known h x (subst (λ k. KnownIn k.keeper h x) (sym c.self.view_is) q)
+returns-clause-known c h d x q = c.extend_owned.ensures.known h d x (subst (λ k. KnownIn k.keeper h d x) (sym c.self.view_is) q)

@@ -15,4 +15,4 @@ returns-clause-store c =
     })
 
 pub returns-clause-known : goal.returns-clause-known
-returns-clause-known c h x uncleared q = c.reclaim.ensures.known h x uncleared (subst (λ k. KnownIn k.keeper h x) (sym c.self.view_is) q)
+returns-clause-known c h d x uncleared q = c.reclaim.ensures.known h d x uncleared (subst (λ k. KnownIn k.keeper h d x) (sym c.self.view_is) q)

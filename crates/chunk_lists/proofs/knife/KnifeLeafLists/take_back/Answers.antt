@@ -1,11 +1,11 @@
 use Rattle.std.proofs.Common.{◌≡◌, List, Some, sym, ap, ◌∙◌, subst, Contains, ⊎_elim}
+use Rattle.std.specs.List.{slice_get}
 use Rattle.std.proofs.lemmas.Option.{slice_get-get_or}
-use Rattle.list_machine.specs.declared.views.Fact.TheVariants.{Item, Closed, Empty}
-use Rattle.list_table.specs.Ledgers.{Knows}
+use Rattle.list_machine.specs.declared.views.Fact.TheVariants.{Item, Link, Closed, Empty}
 use Rattle.list_filers.specs.Ways.{IsShown}
 use Rattle.list_words.specs.Store.{Row, Store, row, row_in, found_in}
 use Rattle.list_words.specs.declared.leaf_lists.Phase.TheVariants.{Shut}
-use Rattle.list_words.specs.declared.leaf_lists.Filed.TheVariants.{Late}
+use Rattle.list_words.specs.declared.leaf_lists.Filed.TheVariants.{At, Late}
 use Rattle.chunk_lists.specs.Keepers.{KnownIn, store_of}
 use Rattle.chunk_lists.specs.Knives.{lists_of}
 use Rattle.chunk_lists.proofs.Lateness.{late_shown}
@@ -14,13 +14,18 @@ use Rattle.chunk_lists.proofs.knife.KnifeLeafLists.take_back.Goals as goal
 pub returns-clause-filed : goal.returns-clause-filed
 returns-clause-filed c a d k inside filed =
     let shown = c.into_seat-seat.ensures.shown inside.0 a (slice_get-get_or _ inside.0 a inside.1 ∙ ap Some inside.2) in
-    let item : Knows c.into_seat-seat.result.guest.facts (Item a.list d k a.item) = subst (IsShown c.into_seat-seat.result.guest a.list a.item) filed shown in
-    let known = c.take_back.ensures.learns (Item a.list d k a.item) item in (
-      (d, k, known),
-      λ shut. subst (λ v. Contains (found_in (row (lists_of v) a.list)) a.item) c.self.view_is
-          (subst (λ (rows : List Row). Contains (found_in (row_in rows a.list)) a.item) (ap (λ (s : Store). s.rows) c.take_back.ensures.store)
-          (c.known_items_are_found.ensures a.list a.item (d, k, known) (ap (λ (s : Store). (row s a.list).phase) c.take_back.ensures.store ∙ subst (λ v. (row (lists_of v) a.list).phase ≡ Shut) (sym c.self.view_is) shut))),
-    )
+    let item : IsShown c.into_seat-seat.result.guest a.list a.item (At d k) = subst (IsShown c.into_seat-seat.result.guest a.list a.item) filed shown in
+    let known = c.take_back.ensures.learns (Item a.list d k a.item) item.0 in
+    let link = c.take_back.ensures.learns (Link a.list item.1.1.1 item.1.0 d) (item.1.1.0, item.1.1.2) in
+    let rows_are : (store_of c.take_back.new.self).rows ≡ (store_of c.self.inside.keeper).rows = ap (λ (s : Store). s.rows) c.take_back.ensures.store in record {
+      known_there = (k, known);
+      rank = item.1.0;
+      chunk = subst (λ v. slice_get (row (lists_of v) a.list).claimed item.1.0 ≡ Some d) c.self.view_is
+          (subst (λ (rows : List Row). slice_get (row_in rows a.list).claimed item.1.0 ≡ Some d) rows_are (c.known_links_have_chunks.ensures a.list item.1.0 d item.1.1.1 link));
+      found = λ shut. subst (λ v. Contains (found_in (row (lists_of v) a.list)) a.item) c.self.view_is
+          (subst (λ (rows : List Row). Contains (found_in (row_in rows a.list)) a.item) rows_are
+          (c.known_items_are_found.ensures a.list d a.item (k, known) (ap (λ (s : Store). (row s a.list).phase) c.take_back.ensures.store ∙ subst (λ v. (row (lists_of v) a.list).phase ≡ Shut) (sym c.self.view_is) shut)));
+    }
 
 pub returns-clause-late : goal.returns-clause-late
 returns-clause-late c a s inside filed =
@@ -32,5 +37,5 @@ returns-clause-late c a s inside filed =
     subst (λ v. (row (lists_of v) a.list).phase ≡ Shut) c.self.view_is (ap (λ (x : Store). (row x a.list).phase) (sym c.take_back.ensures.store) ∙ shut)
 
 pub returns-clause-known : goal.returns-clause-known
-returns-clause-known c h x q =
-    let z = subst (λ k. KnownIn k.keeper h x) (sym c.self.view_is) q in (z.0, z.1, c.take_back.ensures.known (Item h z.0 z.1 x) z.2)
+returns-clause-known c h d x q =
+    let z = subst (λ k. KnownIn k.keeper h d x) (sym c.self.view_is) q in (z.0, c.take_back.ensures.known (Item h d z.0 x) z.1)

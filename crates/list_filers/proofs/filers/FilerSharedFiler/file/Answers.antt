@@ -4,8 +4,9 @@ use Rattle.list_machine.specs.Grants.{granted_in_all}
 use Rattle.list_words.specs.Filing.{HasGrant, answer, answered}
 use Rattle.list_words.specs.declared.leaf_lists.Answer.{Answer}
 use Rattle.list_filers.specs.Filers.{shared_name, AreShown}
+use Rattle.list_filers.specs.Ways.{IsShown}
 use Rattle.list_filers.proofs.Uses.{left_is, use_is, one_less}
-use Rattle.list_filers.proofs.Shown.{more_shown}
+use Rattle.list_filers.proofs.Shown.{more_shown, shown_still}
 use Rattle.list_filers.proofs.filers.FilerSharedFiler.file.Goals as goal
 
 pub file-filed-requires-clause-granted : goal.file-filed-requires-clause-granted
@@ -42,3 +43,10 @@ returns-clause-answered g c =
     let left = done.grants ∙ use_is c.args.list w.guest.grants in
     (λ k. record { name = shared_name (done.lists k); birth = c.self.inside.birth; left = left k; answers = c.push_within.ensures.items k })
     ∙ ap (λ f. answered f.filing c.args.list c.args.item c.file-filed.result) c.self.view_is
+
+pub returns-clause-shown : goal.returns-clause-shown
+returns-clause-shown g c = c.file-filed.ensures.filed.shown
+
+pub returns-clause-kept : goal.returns-clause-kept
+returns-clause-kept g c = λ l x filed shown.
+    shown_still c.self.inside.ways.guest c.file-filed.new.self.guest l x filed c.file-filed.ensures.filed.later.knows (subst (λ f. IsShown f.guest l x filed) (sym c.self.view_is) shown)

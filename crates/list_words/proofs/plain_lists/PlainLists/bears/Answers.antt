@@ -1,4 +1,4 @@
-use Rattle.std.proofs.Common.{◌≡◌, ◌<◌, ◌≤◌, ◌↔◌, IsTrue, length, get_or, Some, refl, sym, subst, arith}
+use Rattle.std.proofs.Common.{◌≡◌, false, ◌<◌, ◌≤◌, ◌↔◌, IsTrue, length, get_or, Some, refl, sym, subst, arith}
 use Rattle.std.specs.List.{slice_get}
 use Rattle.std.proofs.lemmas.Grind.{common_steps}
 use Rattle.std.proofs.lemmas.Option.{slice_get_read}
@@ -25,6 +25,6 @@ returns-in-None c =
     let high : length c.self.inside.homes.items ≤ c.in-At.chunk = grind (arith, common_steps) in (
       λ no. absurd (cc),
       λ bears. absurd (nothing_without_home c.self.inside.rows.items c.self.inside.homes.items c.self.inside.pool c.args.answer.now.list c.args.answer.now.item c.in-At.chunk c.in-At.slot c.self.invariant.homed high
-          (subst (λ (p : Plain). StandsAt (list_in p.lists c.args.answer.now.list) c.args.answer.now.item c.in-At.chunk c.in-At.slot) (sym c.self.view_is)
+          (subst (λ (p : Plain). StandsAt false (list_in p.lists c.args.answer.now.list) c.args.answer.now.item c.in-At.chunk c.in-At.slot) (sym c.self.view_is)
           (subst (λ (f : Filed). Bears (list_in c.args.self.now.lists c.args.answer.now.list) c.args.answer.now.item f) c.in-At.is bears))),
     )

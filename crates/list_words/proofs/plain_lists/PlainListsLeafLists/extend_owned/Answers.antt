@@ -1,16 +1,15 @@
 use Rattle.std.proofs.Common.{◌≡◌, ◌+◌, ◌<◌, true, false, length, set, [], ◌∷◌, ap, sym, subst, ◌∙◌, arith}
-use Rattle.std.specs.List.{Contains}
 use Rattle.std.specs.FinSet as set_of
 use Rattle.std.proofs.lemmas.List.{length-append}
 use Rattle.chunk_pool.specs.Numbers.{Numbers, IsFree, without}
 use Rattle.list_words.specs.Store.{Row, IsInNoChain, Keeps, lengthened, is_shut, row, with_chunk}
-use Rattle.list_words.specs.PlainRows.{PlainList, items_of, lengthened_list, row_of}
-use Rattle.list_words.specs.Plain.{Plain, Knows, all_chunks, chain, chunk_count, list_in, store_of, with_list}
+use Rattle.list_words.specs.PlainRows.{PlainList, lengthened_list, row_of}
+use Rattle.list_words.specs.Plain.{Plain, Knows, StandsAt, chain, chunk_count, list_in, store_of, with_list}
 use Rattle.list_words.specs.PlainKept.{AreHomed, AreSummed, home_of, plain_of}
 use Rattle.list_words.specs.declared.leaf_lists.Phase.TheVariants.{Open}
 use Rattle.list_words.proofs.ChunkLaws.{homed-more, len-without, summed-more}
 use Rattle.list_words.proofs.PlainLaws.{ordered-set}
-use Rattle.list_words.proofs.StoreLaws.{known_changed, list_is, nowhere, open_low, open_phase, store_chunk}
+use Rattle.list_words.proofs.StoreLaws.{known_changed, list_is, nowhere, open_low, open_phase, store_chunk, stands_lengthened}
 use Rattle.list_words.specs.Plain.{SameFiled}
 use Rattle.list_words.proofs.StoreLaws.{filed_changed}
 use Rattle.list_words.proofs.plain_lists.PlainListsLeafLists.extend_owned.Goals as goal
@@ -65,8 +64,7 @@ returns-clause-known c =
     let Q : PlainList = c.index_mut-row.result.now in
     subst (λ p. Keeps (Knows p) (Knows (with_list (plain_of c.self.inside) c.args.list c.lengthen.new.self))) c.self.view_is
     (known_changed (plain_of c.self.inside) c.args.list Q c.lengthen.new.self low is
-    (λ x some inside. subst (λ (q : PlainList). Contains (items_of q) x) (sym c.lengthen.ensures) inside)
-    (λ some. subst (λ (q : PlainList). 0 < length (all_chunks q)) (sym c.lengthen.ensures) (omega (arith, some, length-append Q.claimed Q.owned, length-append (lengthened_list Q c.in-Some.chunk).claimed (lengthened_list Q c.in-Some.chunk).owned, length-append Q.owned (c.in-Some.chunk ∷ [])))))
+    (λ owned x d i at. subst (λ (q : PlainList). StandsAt owned q x d i) (sym c.lengthen.ensures) (stands_lengthened owned Q c.in-Some.chunk x d i at)))
 
 pub returns-clause-same_filed : goal.returns-clause-same_filed
 returns-clause-same_filed c =

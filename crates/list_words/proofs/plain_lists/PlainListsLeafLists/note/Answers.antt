@@ -1,10 +1,11 @@
-use Rattle.std.proofs.Common.{◌≡◌, ℕ, ◌<◌, length, ◌∙◌, arith}
-use Rattle.std.specs.List.{Contains}
+use Rattle.std.proofs.Common.{◌≡◌, ◌<◌, List, length, ap, ◌∙◌, sym, subst, arith}
 use Rattle.std.proofs.lemmas.Grind.{get_or_default_zero}
-use Rattle.list_words.specs.Store.{chunks_of, row}
-use Rattle.list_words.specs.Plain.{store_of}
+use Rattle.list_words.specs.PlainRows.{PlainList}
+use Rattle.list_words.specs.Plain.{Plain, Knows, StandsIn, list_in}
+use Rattle.list_words.specs.PlainKept.{plain_of}
+use Rattle.list_words.specs.declared.leaf_lists.Phase.TheVariants.{Open}
 use Rattle.list_words.proofs.SeatLaws.{counted_here}
-use Rattle.list_words.proofs.StoreLaws.{first_chunk, shut-le}
+use Rattle.list_words.proofs.StoreLaws.{open_phase, shut-le, stands_chunk}
 use Rattle.list_words.proofs.plain_lists.PlainListsLeafLists.note.Goals as goal
 
 pub overflow_cast-result : goal.overflow_cast-result
@@ -31,6 +32,8 @@ invariant_of-self c =
     }
 
 pub returns-clause-sees : goal.returns-clause-sees
-returns-clause-sees c = λ l x open_now known.
-    let chunk : (k : ℕ) × Contains (chunks_of (row (store_of c.args.self.now) l)) k = first_chunk c.args.self.now l known.1 in
-    (chunk.0, chunk.1, tt)
+returns-clause-sees c = λ l k x open_now known.
+    let phase : (list_in c.self.inside.rows.items l).phase ≡ Open = open_phase (plain_of c.self.inside) c.args.self.now l c.self.view_is open_now in
+    let stands : StandsIn (list_in c.self.inside.rows.items l) k x = subst (λ (p : Plain). Knows p l k x) (sym c.self.view_is) known in
+    let rows_are : c.of.result.value.items ≡ c.self.inside.rows.items = ap (λ v. v.items) c.of.ensures in
+    (stands_chunk c.args.self.now l k x known, (l, subst (λ (rows : List PlainList). (list_in rows l).phase ≡ Open) (sym rows_are) phase, subst (λ (rows : List PlainList). StandsIn (list_in rows l) k x) (sym rows_are) stands))

@@ -1,10 +1,9 @@
-use Rattle.std.proofs.Common.{◌≡◌, ◌<◌, length, ap, subst, sym, ◌∙◌, arith}
-use Rattle.std.proofs.lemmas.List.{length-append}
+use Rattle.std.proofs.Common.{◌≡◌, ◌<◌, length, ap, subst, sym, ◌∙◌}
 use Rattle.list_words.specs.Store.{Keeps, opened, row, with_row}
 use Rattle.list_words.specs.PlainRows.{PlainList, row_of}
-use Rattle.list_words.specs.Plain.{Knows, all_chunks, list_in, store_of, with_list}
+use Rattle.list_words.specs.Plain.{Knows, list_in, store_of, with_list}
 use Rattle.list_words.specs.PlainKept.{plain_of}
-use Rattle.list_words.proofs.StoreLaws.{known_changed, list_is, store_changed, within_rows}
+use Rattle.list_words.proofs.StoreLaws.{known_changed, list_is, nothing_stands, store_changed, within_rows}
 use Rattle.list_words.specs.Plain.{SameFiled}
 use Rattle.list_words.proofs.StoreLaws.{filed_changed}
 use Rattle.list_words.proofs.plain_lists.PlainListsLeafLists.open_list.Goals as goal
@@ -20,9 +19,8 @@ pub returns-clause-known : goal.returns-clause-known
 returns-clause-known c =
     let low : c.args.list < length c.self.inside.rows.items = within_rows (plain_of c.self.inside) c.args.self.now c.args.list c.self.view_is c.requires.below in
     let is : c.index_mut-row.result.now ≡ list_in c.self.inside.rows.items c.args.list = list_is c.self.inside.rows.items c.args.list c.index_mut-row.result.now low c.index_mut-row.ensures.value in
-    let none : length (all_chunks c.index_mut-row.result.now) ≡ 0 = let claimed : length c.index_mut-row.result.now.claimed ≡ 0 = ap length c.open.ensures.empty.0 in let owned : length c.index_mut-row.result.now.owned ≡ 0 = ap length c.open.ensures.empty.1 in omega (arith, length-append c.index_mut-row.result.now.claimed c.index_mut-row.result.now.owned) in
     subst (λ p. Keeps (Knows p) (Knows (with_list (plain_of c.self.inside) c.args.list c.open.new.self))) c.self.view_is
-    (known_changed (plain_of c.self.inside) c.args.list c.index_mut-row.result.now c.open.new.self low is (λ x some inside. absurd (omega (arith, some))) (λ some. absurd (omega (arith, some))))
+    (known_changed (plain_of c.self.inside) c.args.list c.index_mut-row.result.now c.open.new.self low is (λ owned x d i at. absurd (nothing_stands owned c.index_mut-row.result.now x d i c.open.ensures.empty.0 c.open.ensures.empty.1 at)))
 
 pub returns-clause-same_filed : goal.returns-clause-same_filed
 returns-clause-same_filed c =

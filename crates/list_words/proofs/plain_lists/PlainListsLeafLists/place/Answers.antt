@@ -1,11 +1,9 @@
-use Rattle.std.proofs.Common.{◌≡◌, ◌*◌, ◌<◌, length, ap, refl, sym, subst, ◌∙◌, arith}
-use Rattle.std.proofs.lemmas.List.{length-append}
-use Rattle.std.specs.List.{Contains}
+use Rattle.std.proofs.Common.{◌≡◌, true, ◌/◌, ◌%◌, ◌<◌, length, Some, ap, refl, sym, subst, ◌∙◌}
+use Rattle.std.specs.List.{slice_get}
 use Rattle.list_words.specs.Store.{Row, Keeps, placed_in, row, with_row}
-use Rattle.list_words.specs.PlainRows.{PlainList, items_of, placed_list, row_of}
-use Rattle.list_words.specs.Plain.{Plain, Knows, all_chunks, list_in, store_of, with_list}
+use Rattle.list_words.specs.PlainRows.{PlainList, placed_list, row_of}
+use Rattle.list_words.specs.Plain.{Knows, StandsAt, list_in, store_of, with_list}
 use Rattle.list_words.specs.PlainKept.{plain_of}
-use Rattle.list_words.proofs.PlainLaws.{row-map}
 use Rattle.list_words.proofs.StoreLaws.{SameShape, homed-same, known_changed, known_here, list_is, more_placed, open_low, ordered-same, placed_there, same_shape, store_changed, summed-same}
 use Rattle.list_words.specs.Plain.{SameFiled}
 use Rattle.list_words.proofs.StoreLaws.{filed_changed}
@@ -44,15 +42,9 @@ pub returns-clause-placed : goal.returns-clause-placed
 returns-clause-placed c =
     let low : c.args.list < length c.self.inside.rows.items = open_low (plain_of c.self.inside) c.args.self.now c.args.list c.self.view_is c.requires.takes in
     let is : c.index_mut-row.result.now ≡ list_in c.self.inside.rows.items c.args.list = list_is c.self.inside.rows.items c.args.list c.index_mut-row.result.now low c.index_mut-row.ensures.value in
-    let there : c.index_mut-row.result.now ≡ list_in c.args.self.now.lists c.args.list = is ∙ ap (λ (p : Plain). list_in p.lists c.args.list) c.self.view_is in
-    let room : length (list_in c.args.self.now.lists c.args.list).placed < 256 * length (list_in c.args.self.now.lists c.args.list).owned =
-    subst (λ (r : Row). length r.placed < 256 * length r.owned) (row-map c.args.self.now.lists c.args.list) c.requires.room in
-    let here : length c.index_mut-row.result.now.placed < 256 * length c.index_mut-row.result.now.owned =
-    subst (λ (q : PlainList). length q.placed < 256 * length q.owned) (sym there) room in
-    let some : 0 < length (all_chunks (placed_list c.index_mut-row.result.now c.args.item)) = omega (arith, here, length-append c.index_mut-row.result.now.claimed c.index_mut-row.result.now.owned) in
-    known_here (plain_of c.self.inside) c.args.list c.args.item c.place.new.self low
-    (subst (λ (q : PlainList). Contains (items_of q) c.args.item) (sym c.place.ensures.placed) (placed_there c.index_mut-row.result.now c.args.item))
-    (subst (λ (q : PlainList). 0 < length (all_chunks q)) (sym c.place.ensures.placed) some)
+    let chunk : slice_get c.index_mut-row.result.now.owned (length c.index_mut-row.result.now.placed / 256) ≡ Some c.place.result.0 = c.place.ensures.chunk in
+    known_here (plain_of c.self.inside) c.args.list c.place.result.0 c.args.item c.place.new.self low
+    (true, length c.index_mut-row.result.now.placed % 256, subst (λ (q : PlainList). StandsAt true q c.args.item c.place.result.0 (length c.index_mut-row.result.now.placed % 256)) (sym c.place.ensures.placed) (placed_there c.index_mut-row.result.now c.args.item c.place.result.0 chunk))
 
 pub returns-clause-known : goal.returns-clause-known
 returns-clause-known c =
@@ -60,8 +52,7 @@ returns-clause-known c =
     let is : c.index_mut-row.result.now ≡ list_in c.self.inside.rows.items c.args.list = list_is c.self.inside.rows.items c.args.list c.index_mut-row.result.now low c.index_mut-row.ensures.value in
     subst (λ p. Keeps (Knows p) (Knows (with_list (plain_of c.self.inside) c.args.list c.place.new.self))) c.self.view_is
     (known_changed (plain_of c.self.inside) c.args.list c.index_mut-row.result.now c.place.new.self low is
-    (λ x some inside. subst (λ (q : PlainList). Contains (items_of q) x) (sym c.place.ensures.placed) (more_placed c.index_mut-row.result.now c.args.item x inside))
-    (λ some. subst (λ (q : PlainList). 0 < length (all_chunks q)) (sym c.place.ensures.placed) some))
+    (λ owned x d i at. subst (λ (q : PlainList). StandsAt owned q x d i) (sym c.place.ensures.placed) (more_placed owned c.index_mut-row.result.now c.args.item x d i at)))
 
 pub returns-clause-same_filed : goal.returns-clause-same_filed
 returns-clause-same_filed c =

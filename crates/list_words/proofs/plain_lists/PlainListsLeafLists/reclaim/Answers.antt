@@ -21,8 +21,8 @@ returns-clause-store c = cleared_all (store_of c.args.self.now) (store_of c.loop
     differ e = cc
 
 pub returns-clause-known : goal.returns-clause-known
-returns-clause-known c = λ l x uncleared known.
-    c.loop-self.invariant.known l x (λ inside. uncleared (subst (λ (xs : List ℕ). Contains (take c.loop-self.self.cleared xs) l) (sym (ap (λ (s : Store). s.order) c.loop-self.invariant.stores.rest)) inside)) known
+returns-clause-known c = λ l d x uncleared known.
+    c.loop-self.invariant.known l d x (λ inside. uncleared (subst (λ (xs : List ℕ). Contains (take c.loop-self.self.cleared xs) l) (sym (ap (λ (s : Store). s.order) c.loop-self.invariant.stores.rest)) inside)) known
 
 pub returns-clause-stays : goal.returns-clause-stays
 returns-clause-stays c = λ l uncleared.

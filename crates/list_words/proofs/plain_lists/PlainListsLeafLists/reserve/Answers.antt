@@ -1,7 +1,7 @@
 use Rattle.std.proofs.Common.{◌≡◌, ◌<◌, length, ap, refl, subst, ◌∙◌}
 use Rattle.list_words.specs.Store.{Row, Keeps, roomier, row, with_row}
-use Rattle.list_words.specs.PlainRows.{PlainList, items_of, roomier_list, row_of}
-use Rattle.list_words.specs.Plain.{Knows, all_chunks, list_in, store_of, with_list}
+use Rattle.list_words.specs.PlainRows.{PlainList, roomier_list, row_of}
+use Rattle.list_words.specs.Plain.{Knows, chain, chain_items, list_in, store_of, with_list}
 use Rattle.list_words.specs.PlainKept.{plain_of}
 use Rattle.list_words.proofs.StoreLaws.{SameShape, homed-same, known_same, list_is, ordered-same, same_shape, store_changed, summed-same, within_rows}
 use Rattle.list_words.specs.Plain.{SameFiled}
@@ -13,7 +13,7 @@ returns-in_err-reserve-clause-known c =
     let low : c.args.list < length c.self.inside.rows.items = within_rows (plain_of c.self.inside) c.args.self.now c.args.list c.self.view_is c.requires in
     let is : c.index_mut-row.result.now ≡ list_in c.self.inside.rows.items c.args.list = list_is c.self.inside.rows.items c.args.list c.index_mut-row.result.now low c.index_mut-row.ensures.value in
     subst (λ p. Keeps (Knows p) (Knows (with_list (plain_of c.self.inside) c.args.list c.reserve.new.self))) c.self.view_is
-    (known_same (plain_of c.self.inside) c.args.list c.index_mut-row.result.now c.reserve.new.self low is (ap items_of c.in_err-reserve.ensures.err) (ap all_chunks c.in_err-reserve.ensures.err))
+    (known_same (plain_of c.self.inside) c.args.list c.index_mut-row.result.now c.reserve.new.self low is (λ owned. ap (chain owned) c.in_err-reserve.ensures.err) (λ owned. ap (chain_items owned) c.in_err-reserve.ensures.err))
 
 pub invariant_of-self-2 : goal.invariant_of-self-2
 invariant_of-self-2 c =
@@ -49,7 +49,7 @@ returns-clause-known c =
     let low : c.args.list < length c.self.inside.rows.items = within_rows (plain_of c.self.inside) c.args.self.now c.args.list c.self.view_is c.requires in
     let is : c.index_mut-row.result.now ≡ list_in c.self.inside.rows.items c.args.list = list_is c.self.inside.rows.items c.args.list c.index_mut-row.result.now low c.index_mut-row.ensures.value in
     subst (λ p. Keeps (Knows p) (Knows (with_list (plain_of c.self.inside) c.args.list c.reserve.new.self))) c.self.view_is
-    (known_same (plain_of c.self.inside) c.args.list c.index_mut-row.result.now c.reserve.new.self low is (ap items_of c.in_ok-reserve.ensures.ok) (ap all_chunks c.in_ok-reserve.ensures.ok))
+    (known_same (plain_of c.self.inside) c.args.list c.index_mut-row.result.now c.reserve.new.self low is (λ owned. ap (chain owned) c.in_ok-reserve.ensures.ok) (λ owned. ap (chain_items owned) c.in_ok-reserve.ensures.ok))
 
 pub returns-in_err-reserve-clause-same_filed : goal.returns-in_err-reserve-clause-same_filed
 returns-in_err-reserve-clause-same_filed c =

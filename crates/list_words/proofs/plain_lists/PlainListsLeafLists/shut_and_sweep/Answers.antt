@@ -1,15 +1,16 @@
-use Rattle.std.proofs.Common.{◌≡◌, ℕ, ◌+◌, ◌<◌, ◌≤◌, List, [], ◌∷◌, ◌++◌, length, map, set, Some, ap, sym, subst, ◌∙◌, arith}
+use Rattle.std.proofs.Common.{◌≡◌, ℕ, ◌+◌, ◌<◌, ◌≤◌, ◌*◌, List, [], ◌∷◌, ◌++◌, length, map, set, Some, ap, sym, subst, ◌∙◌, arith}
 use Rattle.std.specs.List.{Contains, slice_get}
 use Rattle.std.proofs.lemmas.List.{length-append, length-map, length-set}
-use Rattle.list_words.specs.Store.{Row, Keeps, is_shut, row, shut_now}
+use Rattle.list_words.specs.Store.{Row, AreMarks, Keeps, Stood, is_shut, row, shut_now}
 use Rattle.list_words.specs.PlainRows.{PlainList, items_of, row_of, shut_list}
-use Rattle.list_words.specs.Plain.{Plain, Knows, all_chunks, chain, chunk_count, list_in, store_of, with_list}
+use Rattle.list_words.specs.Plain.{Plain, Knows, StandsIn, chain, chain_items, chunk_count, list_in, store_of, with_list}
 use Rattle.list_words.specs.PlainKept.{AreOrdered, AreSummed, plain_of}
 use Rattle.list_words.specs.declared.leaf_lists.Phase.TheVariants.{Open}
 use Rattle.list_words.proofs.ChunkLaws.{summed-shut}
-use Rattle.list_words.proofs.PlainLaws.{homed-set, row-map}
+use Rattle.list_words.proofs.MarkLaws.{found_stands}
+use Rattle.list_words.proofs.PlainLaws.{homed-set, list_in-set_same, row-map}
 use Rattle.list_words.proofs.SeatLaws.{ordered-shut}
-use Rattle.list_words.proofs.StoreLaws.{held-le, known_same, list_is, open_low, open_phase, shut-le, shut_found, store_shut}
+use Rattle.list_words.proofs.StoreLaws.{held-le, known_same, list_is, open_low, open_phase, shut-le, shut_found, stands_among, store_shut, swept_marks}
 use Rattle.list_words.specs.Plain.{SameFiled}
 use Rattle.list_words.proofs.StoreLaws.{filed_changed}
 use Rattle.list_words.proofs.plain_lists.PlainListsLeafLists.shut_and_sweep.Goals as goal
@@ -114,13 +115,29 @@ returns-clause-found c =
     let is : c.index_mut-row.result.now ≡ L = list_is c.self.inside.rows.items c.args.list c.index_mut-row.result.now low c.index_mut-row.ensures.value in
     c.sweep.ensures.found ∙ ap (λ (xs : List ℕ). c.args.out.now.items ++ xs) (sym (shut_found (plain_of c.self.inside) c.args.list c.index_mut-row.result.now c.sweep.new.self low c.sweep.ensures.shut))
 
+pub returns-clause-marks : goal.returns-clause-marks
+returns-clause-marks c =
+    let low : c.args.list < length c.self.inside.rows.items = open_low (plain_of c.self.inside) c.args.self.now c.args.list c.self.view_is c.requires.takes in
+    let lists : List PlainList = set c.self.inside.rows.items c.args.list c.sweep.new.self in
+    let here : list_in lists c.args.list ≡ c.sweep.new.self = list_in-set_same c.self.inside.rows.items c.args.list c.sweep.new.self low in
+    let q : PlainList = c.sweep.new.self in
+    let e : q ≡ shut_list c.index_mut-row.result.now = c.sweep.ensures.shut in
+    let marks : AreMarks (Stood (StandsIn q)) (length q.filed) (row_of q) = swept_marks q (ap (λ (b : PlainList). b.phase) e)
+    (subst (λ (b : PlainList). length b.filed ≤ 256 * length b.claimed) (sym e) c.sweep.ensures.filed)
+    (subst (λ (b : PlainList). length b.placed ≤ 256 * length b.owned) (sym e) c.sweep.ensures.placed) in
+    subst (λ (r : Row). AreMarks (Stood (StandsIn (list_in lists c.args.list))) (length (list_in lists c.args.list).filed) r) (sym (row-map lists c.args.list))
+    (subst (λ (b : PlainList). AreMarks (Stood (StandsIn b)) (length b.filed) (row_of b)) (sym here) marks)
+
+pub returns-clause-stands : goal.returns-clause-stands
+returns-clause-stands c = λ x inside. found_stands _ _ _ (returns-clause-marks c) x inside
+
 pub returns-clause-swept : goal.returns-clause-swept
-returns-clause-swept c = λ x known.
+returns-clause-swept c = λ d x known.
     let low : c.args.list < length c.self.inside.rows.items = open_low (plain_of c.self.inside) c.args.self.now c.args.list c.self.view_is c.requires.takes in
     let L : PlainList = list_in c.self.inside.rows.items c.args.list in
     let is : c.index_mut-row.result.now ≡ L = list_is c.self.inside.rows.items c.args.list c.index_mut-row.result.now low c.index_mut-row.ensures.value in
     let there : list_in c.args.self.now.lists c.args.list ≡ c.index_mut-row.result.now = ap (λ (p : Plain). list_in p.lists c.args.list) (sym c.self.view_is) ∙ sym is in
-    let inside : Contains (items_of c.index_mut-row.result.now) x = subst (λ (q : PlainList). Contains (items_of q) x) there known.0 in
+    let inside : Contains (items_of c.index_mut-row.result.now) x = subst (λ (q : PlainList). Contains (items_of q) x) there (stands_among known.0 (list_in c.args.self.now.lists c.args.list) x d known.1 known.2) in
     subst (λ (xs : List ℕ). Contains xs x) (sym (shut_found (plain_of c.self.inside) c.args.list c.index_mut-row.result.now c.sweep.new.self low c.sweep.ensures.shut)) inside
 
 pub returns-clause-known : goal.returns-clause-known
@@ -129,7 +146,7 @@ returns-clause-known c =
     let L : PlainList = list_in c.self.inside.rows.items c.args.list in
     let is : c.index_mut-row.result.now ≡ L = list_is c.self.inside.rows.items c.args.list c.index_mut-row.result.now low c.index_mut-row.ensures.value in
     subst (λ p. Keeps (Knows p) (Knows (with_list (plain_of c.self.inside) c.args.list c.sweep.new.self))) c.self.view_is
-    (known_same (plain_of c.self.inside) c.args.list c.index_mut-row.result.now c.sweep.new.self low is (ap items_of c.sweep.ensures.shut) (ap all_chunks c.sweep.ensures.shut))
+    (known_same (plain_of c.self.inside) c.args.list c.index_mut-row.result.now c.sweep.new.self low is (λ owned. ap (chain owned) c.sweep.ensures.shut) (λ owned. ap (chain_items owned) c.sweep.ensures.shut))
 
 pub returns-clause-same_filed : goal.returns-clause-same_filed
 returns-clause-same_filed c =

@@ -15,7 +15,7 @@ use Rattle.leaf_counts.proofs.NodeLaws.{node_at-Leaf}
 use Rattle.leaf_counts.proofs.PathLaws.{leaf_paths-Leaf, leaf_paths-Inner}
 use Rattle.record_model.specs.Admissions.{AdmissionValue, admissions}
 use Rattle.record_model.specs.Records.{Record, published}
-use Rattle.record_model.specs.declared.config.Config.{Config}
+use Rattle.cube_math.specs.declared.config.Config.{Config}
 use Rattle.record_model.specs.declared.event.Event.{Event}
 use Rattle.record_model.specs.declared.event.Event.TheVariants.{Admission, Publication}
 use Rattle.chunk_needs.specs.Leaves.{counts_of, is_leaf_of, leaves, made_leaves, number_in}

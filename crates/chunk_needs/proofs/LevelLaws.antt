@@ -6,18 +6,18 @@ use Rattle.std.proofs.Math.Nat.{mul-le-mul_left}
 use Rattle.std.proofs.lemmas.List.{map-append, length-append}
 use Rattle.std.proofs.lemmas.List.Sums.{sum_by-cons, sum_by-append}
 use Rattle.cube_math.specs.Points.{PointValue}
-use Rattle.cube_math.specs.Cubes.{CubeValue, contains, child, octant}
+use Rattle.cube_math.specs.Cubes.{CubeValue, contains, child, octant, cube_at}
 use Rattle.cube_math.proofs.Halves.{child_has}
 use Rattle.octree_model.specs.Numbers.{up_to}
 use Rattle.octree_model.specs.Octree.{inside}
 use Rattle.leaf_counts.specs.declared.counts.Counts.{Counts}
-use Rattle.leaf_counts.specs.Nodes.{cube_at, is_leaf_at, node_total}
+use Rattle.leaf_counts.specs.Nodes.{is_leaf_at, node_total}
 use Rattle.leaf_counts.specs.Paths.{leaf_paths, paths_below}
 use Rattle.leaf_counts.proofs.CountLaws as counts
 use Rattle.leaf_counts.proofs.CountLaws.{counts_of}
 use Rattle.leaf_counts.proofs.NodeLaws.{total-Leaf, total-Inner}
 use Rattle.leaf_counts.proofs.PathLaws.{leaf_paths-Leaf, leaf_paths-Inner}
-use Rattle.chunk_needs.proofs.LeafLaws.{Stays, Splits, shape, leaf_here, no_leaf_here, leaf_below, splits_more}
+use Rattle.leaf_counts.proofs.LeafLaws.{IsLeafHere, IsSplit, leaf_or_split, leaf_here, no_leaf_here, leaf_below, still_split}
 use Rattle.chunk_needs.proofs.BelowLaws.{below, below_same, below_le, below_both, below_zero, sum_by-map}
 use Rattle.std.proofs.lemmas.Bool.{le-ltb}
 
@@ -90,10 +90,10 @@ paths_sum f F (suc n) =
 abbrev pub leaf_sum : ℕ → CubeValue → List PointValue → (List ℕ → ℕ) → ℕ
 leaf_sum leaf c ps f = sum_by f (leaf_paths (counts_of leaf c ps))
 
-pub leaf_sum_leaf : (leaf : ℕ) (c : CubeValue) (ps : List PointValue) (f : List ℕ → ℕ) → Stays leaf c ps → leaf_sum leaf c ps f ≡ f []
+pub leaf_sum_leaf : (leaf : ℕ) (c : CubeValue) (ps : List PointValue) (f : List ℕ → ℕ) → IsLeafHere leaf c ps → leaf_sum leaf c ps f ≡ f []
 leaf_sum_leaf leaf c ps f s = ap (λ (t : Counts). sum_by f (leaf_paths t)) (counts.is_leaf leaf c ps s) ∙ ap (sum_by f) (leaf_paths-Leaf (length (inside c ps))) ∙ sum_by-cons f [] [] ∙ (let t : f [] + sum_by f [] ≡ f [] = omega arith in t)
 
-pub leaf_sum_inner : (leaf : ℕ) (c : CubeValue) (ps : List PointValue) (f : List ℕ → ℕ) → Splits leaf c ps → leaf_sum leaf c ps f ≡ below (λ g. leaf_sum leaf (child c g) ps (λ path. f (g ∷ path))) 8
+pub leaf_sum_inner : (leaf : ℕ) (c : CubeValue) (ps : List PointValue) (f : List ℕ → ℕ) → IsSplit leaf c ps → leaf_sum leaf c ps f ≡ below (λ g. leaf_sum leaf (child c g) ps (λ path. f (g ∷ path))) 8
 leaf_sum_inner leaf c ps f s =
     ap (λ (t : Counts). sum_by f (leaf_paths t)) (counts.is_inner leaf c ps s.more s.high)
     ∙ ap (sum_by f) (leaf_paths-Inner (length (inside c ps)) (map (λ g. counts_of leaf (child c g) ps) (up_to 8)))
@@ -111,7 +111,7 @@ inner_few (suc depth) leaf c ps f few = ap (λ (b : Bool). cond b (f [] + below 
 inner_more : (depth leaf : ℕ) (c : CubeValue) (ps : List PointValue) (f : List ℕ → ℕ) → leaf < length (inside c ps) → inner_sum (suc depth) leaf c ps f ≡ f [] + below (λ g. inner_sum depth leaf (child c g) ps (λ path. f (g ∷ path))) 8
 inner_more depth leaf c ps f more = ap (λ (b : Bool). cond b (f [] + below (λ g. inner_sum depth leaf (child c g) ps (λ path. f (g ∷ path))) 8) 0) (lt-ltb leaf (length (inside c ps)) more)
 
-inner_none : (depth leaf : ℕ) (c : CubeValue) (ps : List PointValue) (f : List ℕ → ℕ) → c.bits - 7 ≡ depth → Stays leaf c ps → inner_sum depth leaf c ps f ≡ 0
+inner_none : (depth leaf : ℕ) (c : CubeValue) (ps : List PointValue) (f : List ℕ → ℕ) → c.bits - 7 ≡ depth → IsLeafHere leaf c ps → inner_sum depth leaf c ps f ≡ 0
 inner_none zero leaf c ps f e s = refl
 inner_none (suc depth) leaf c ps f e (inl few) = inner_few (suc depth) leaf c ps f few
 inner_none (suc depth) leaf c ps f e (inr low) = absurd (omega arith)
@@ -129,17 +129,17 @@ inner_le (suc depth) leaf c ps f h le = by (nat_lt leaf (length (inside c ps))) 
 abbrev pub split_sum : ℕ → CubeValue → List PointValue → List PointValue → (List ℕ → ℕ) → ℕ
 split_sum leaf c ps qs f = leaf_sum leaf c ps (λ path. cond (is_leaf_at (counts_of leaf c (ps ++ qs)) path) 0 (f path))
 
-split_none : (leaf : ℕ) (c : CubeValue) (ps qs : List PointValue) (f : List ℕ → ℕ) → Stays leaf c ps → Stays leaf c (ps ++ qs) → split_sum leaf c ps qs f ≡ 0
+split_none : (leaf : ℕ) (c : CubeValue) (ps qs : List PointValue) (f : List ℕ → ℕ) → IsLeafHere leaf c ps → IsLeafHere leaf c (ps ++ qs) → split_sum leaf c ps qs f ≡ 0
 split_none leaf c ps qs f s t = leaf_sum_leaf leaf c ps (λ path. cond (is_leaf_at (counts_of leaf c (ps ++ qs)) path) 0 (f path)) s ∙ ap (λ (b : Bool). cond b 0 (f [])) (leaf_here leaf c (ps ++ qs) t)
 
-split_here : (leaf : ℕ) (c : CubeValue) (ps qs : List PointValue) (f : List ℕ → ℕ) → Stays leaf c ps → Splits leaf c (ps ++ qs) → split_sum leaf c ps qs f ≡ f []
+split_here : (leaf : ℕ) (c : CubeValue) (ps qs : List PointValue) (f : List ℕ → ℕ) → IsLeafHere leaf c ps → IsSplit leaf c (ps ++ qs) → split_sum leaf c ps qs f ≡ f []
 split_here leaf c ps qs f s t = leaf_sum_leaf leaf c ps (λ path. cond (is_leaf_at (counts_of leaf c (ps ++ qs)) path) 0 (f path)) s ∙ ap (λ (b : Bool). cond b 0 (f [])) (no_leaf_here leaf c (ps ++ qs) t)
 
 sum_agree : {X : Type 0} (f h : X → ℕ) (xs : List X) → ((x : X) → f x ≡ h x) → sum_by f xs ≡ sum_by h xs
 sum_agree f h [] e = refl
 sum_agree f h (x ∷ xs) e = let r = sum_agree f h xs e in let a = sum_by-cons f x xs in let b = sum_by-cons h x xs in let t = e x in omega arith
 
-split_below : (leaf : ℕ) (c : CubeValue) (ps qs : List PointValue) (f : List ℕ → ℕ) → Splits leaf c ps → Splits leaf c (ps ++ qs) → split_sum leaf c ps qs f ≡ below (λ g. split_sum leaf (child c g) ps qs (λ path. f (g ∷ path))) 8
+split_below : (leaf : ℕ) (c : CubeValue) (ps qs : List PointValue) (f : List ℕ → ℕ) → IsSplit leaf c ps → IsSplit leaf c (ps ++ qs) → split_sum leaf c ps qs f ≡ below (λ g. split_sum leaf (child c g) ps qs (λ path. f (g ∷ path))) 8
 split_below leaf c ps qs f s t =
     leaf_sum_inner leaf c ps (λ path. cond (is_leaf_at (counts_of leaf c (ps ++ qs)) path) 0 (f path)) s
     ∙ below_same (λ g. leaf_sum leaf (child c g) ps (λ path. cond (is_leaf_at (counts_of leaf c (ps ++ qs)) (g ∷ path)) 0 (f (g ∷ path)))) (λ g. split_sum leaf (child c g) ps qs (λ path. f (g ∷ path))) 8
@@ -149,13 +149,13 @@ split_below leaf c ps qs f s t =
 -- the leaves that were split are inner nodes now, and the inner nodes of before still are
 pub splits_become_inner : (depth leaf : ℕ) (c : CubeValue) (ps qs : List PointValue) (f : List ℕ → ℕ) → c.bits - 7 ≡ depth → inner_sum depth leaf c ps f + split_sum leaf c ps qs f ≤ inner_sum depth leaf c (ps ++ qs) f
 splits_become_inner zero leaf c ps qs f e = let z = split_none leaf c ps qs f (inr (omega arith)) (inr (omega arith)) in omega arith
-splits_become_inner (suc depth) leaf c ps qs f e = elim (shape leaf c ps) [
-  | inl s ↦ elim (shape leaf c (ps ++ qs)) [
+splits_become_inner (suc depth) leaf c ps qs f e = elim (leaf_or_split leaf c ps) [
+  | inl s ↦ elim (leaf_or_split leaf c (ps ++ qs)) [
     | inl t ↦ (let z = split_none leaf c ps qs f s t in let y = inner_none (suc depth) leaf c ps f e s in omega arith)
     | inr t ↦ (let z = split_here leaf c ps qs f s t in let y = inner_none (suc depth) leaf c ps f e s in let x = inner_more depth leaf c (ps ++ qs) f t.more in omega arith)
   ]
   | inr s ↦
-      let t = splits_more leaf c ps qs s in
+      let t = still_split leaf c ps qs s in
       let a = inner_more depth leaf c ps f s.more in
       let b = inner_more depth leaf c (ps ++ qs) f t.more in
       let d = split_below leaf c ps qs f s t in
@@ -185,11 +185,11 @@ filled c q path = 2 + length (inside (cube_at c path) q) / 256
 pub levels : (depth leaf : ℕ) (c : CubeValue) (ps q : List PointValue) → c.bits - 7 ≡ depth
     → inner_sum depth leaf c ps (filled c q) + leaf_sum leaf c ps (filled c q) ≤ 2 * node_total (counts_of leaf c ps) + (depth + 1) * (length (inside c q) / 256)
 levels zero leaf c ps q e =
-    let s : Stays leaf c ps = inr (omega arith) in
+    let s : IsLeafHere leaf c ps = inr (omega arith) in
     let a = leaf_sum_leaf leaf c ps (filled c q) s in
     let b : node_total (counts_of leaf c ps) ≡ 1 = ap node_total (counts.is_leaf leaf c ps s) ∙ total-Leaf (length (inside c ps)) in
     omega arith
-levels (suc depth) leaf c ps q e = elim (shape leaf c ps) [
+levels (suc depth) leaf c ps q e = elim (leaf_or_split leaf c ps) [
   | inl s ↦
       (let a = leaf_sum_leaf leaf c ps (filled c q) s in
       let z = inner_none (suc depth) leaf c ps (filled c q) e s in

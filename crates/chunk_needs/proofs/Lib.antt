@@ -1,6 +1,5 @@
 pub mod BelowLaws
 mod Examples
-pub mod LeafLaws
 pub mod LevelLaws
 pub mod NeedLaws
 pub mod SumLaws

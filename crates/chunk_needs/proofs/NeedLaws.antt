@@ -7,10 +7,10 @@ use Rattle.std.proofs.lemmas.List.Elements.{filter-append}
 use Rattle.std.specs.List.{flat_map}
 use Rattle.chunk_pool.specs.Amounts.{chunks_for}
 use Rattle.cube_math.specs.Points.{PointValue}
-use Rattle.cube_math.specs.Cubes.{contains}
+use Rattle.cube_math.specs.Cubes.{contains, cube_at}
 use Rattle.octree_model.specs.Octree.{inside}
 use Rattle.leaf_counts.specs.declared.counts.Counts.{Counts}
-use Rattle.leaf_counts.specs.Nodes.{is_leaf_at, cube_at}
+use Rattle.leaf_counts.specs.Nodes.{is_leaf_at}
 use Rattle.leaf_counts.specs.Overfull.{overfull}
 use Rattle.leaf_counts.specs.Paths.{leaf_paths}
 use Rattle.leaf_counts.proofs.CountLaws.{counted_is}
@@ -19,13 +19,13 @@ use Rattle.leaf_counts.proofs.NewLaws.{no_new_leaves}
 use Rattle.leaf_counts.proofs.PathLaws.{leaf_paths-Leaf}
 use Rattle.record_model.specs.Admissions.{AdmissionValue, admissions, admissions_from, admitted_points}
 use Rattle.record_model.specs.Records.{Record, published}
-use Rattle.record_model.specs.declared.config.Config.{Config}
+use Rattle.cube_math.specs.declared.config.Config.{Config}
 use Rattle.record_model.specs.declared.event.Event.TheVariants.{Admission, Publication, Look}
 use Rattle.record_model.proofs.RecordLaws.{admissions-admission, admissions-look, admissions-publication, published-admission, published-look, published-publication}
 use Rattle.chunk_needs.specs.Leaves.{counts_of, is_leaf_of, leaves, number_in, split_leaves}
 use Rattle.chunk_needs.specs.Needs.{leaf_chunks, live, more_chunks, need}
 use Rattle.chunk_needs.specs.Slots.{granted, owned}
-use Rattle.chunk_needs.proofs.LeafLaws.{staying, leaf_between, overfull_are_split}
+use Rattle.leaf_counts.proofs.LeafLaws.{staying, leaf_between, overfull_are_split}
 use Rattle.chunk_needs.proofs.SumLaws.{same_sum, same_sum_in, sum_both, sum_one}
 
 -- all leaves are leaves

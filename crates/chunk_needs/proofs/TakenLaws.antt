@@ -15,7 +15,7 @@ use Rattle.leaf_counts.proofs.CountLaws.{counts_of, counted_is}
 use Rattle.leaf_counts.proofs.TotalLaws.{total_at}
 use Rattle.record_model.specs.Admissions.{AdmissionValue, admissions, admitted, admitted_points}
 use Rattle.record_model.specs.Records.{Record, published}
-use Rattle.record_model.specs.declared.config.Config.{Config}
+use Rattle.cube_math.specs.declared.config.Config.{Config}
 use Rattle.record_model.specs.declared.event.Event.{Event}
 use Rattle.record_model.specs.declared.event.Event.TheVariants.{Admission, Publication, Look}
 use Rattle.record_model.proofs.RecordLaws.{admissions-admission, admissions-look, admissions-publication, admitted-items, published-admission, published-look, published-publication}

@@ -1,13 +1,14 @@
 -- The octree of a record's journal: its leaves by their paths, and how many points lie in them.
 use Rattle.std.specs.Prelude.{ℕ, Bool, List, [], ◌∷◌, ◌++◌, filter, length, not}
 use Rattle.cube_math.specs.Points.{PointValue}
+use Rattle.cube_math.specs.Cubes.{cube_at}
 use Rattle.octree_model.specs.Octree.{octree, inside}
 use Rattle.leaf_counts.specs.declared.counts.Counts.{Counts}
-use Rattle.leaf_counts.specs.Nodes.{counted, is_leaf_at, cube_at}
+use Rattle.leaf_counts.specs.Nodes.{counted, is_leaf_at}
 use Rattle.leaf_counts.specs.Paths.{leaf_paths}
 use Rattle.leaf_counts.specs.Plans.{new_leaves}
 use Rattle.record_model.specs.Records.{Record, published}
-use Rattle.record_model.specs.declared.config.Config.{Config}
+use Rattle.cube_math.specs.declared.config.Config.{Config}
 use Rattle.record_model.specs.declared.event.Event.{Event}
 
 -- the nodes with their counts, once these points are published

@@ -5,7 +5,7 @@ use Rattle.octree_model.specs.Counts.{nodes}
 use Rattle.octree_model.specs.Octree.{octree}
 use Rattle.record_model.specs.Admissions.{admitted}
 use Rattle.record_model.specs.Records.{Record, published}
-use Rattle.record_model.specs.declared.config.Config.{Config}
+use Rattle.cube_math.specs.declared.config.Config.{Config}
 
 -- the number of nodes, once these points are published
 abbrev pub nodes_of : Config → List PointValue → ℕ

@@ -3,7 +3,7 @@ use Rattle.std.specs.Prelude.{ℕ, ◌+◌, ◌-◌, List, [], ◌∷◌, ◌++�
 use Rattle.chunk_pool.specs.Amounts.{chunks_for}
 use Rattle.cube_math.specs.Points.{PointValue}
 use Rattle.record_model.specs.Records.{Record}
-use Rattle.record_model.specs.declared.config.Config.{Config}
+use Rattle.cube_math.specs.declared.config.Config.{Config}
 use Rattle.record_model.specs.declared.event.Event.{Event}
 use Rattle.record_model.specs.declared.event.Event.TheVariants.{Admission, Publication, Look}
 use Rattle.chunk_needs.specs.Leaves.{leaves, made_leaves, number_in}

@@ -2,7 +2,7 @@
 use Rattle.std.specs.Prelude.{ℕ, List, sum_by, if◌then◌else◌}
 use Rattle.record_model.specs.Records.{Record}
 use Rattle.record_model.specs.Admissions.{AdmissionValue, admissions}
-use Rattle.record_model.specs.declared.config.Config.{Config}
+use Rattle.cube_math.specs.declared.config.Config.{Config}
 use Rattle.chunk_needs.specs.Leaves.{is_leaf_of, number_in}
 
 -- the points in a leaf's cube that were admitted while the path led to a leaf: slots were granted for them in its list

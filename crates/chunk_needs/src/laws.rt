@@ -5,7 +5,7 @@ ghost use Rattle.cube_math.specs.Points.{PointValue};
 ghost use Rattle.leaf_counts.specs.Overfull.{overfull};
 ghost use Rattle.record_model.specs.Admissions.{admitted, admitted_points};
 ghost use Rattle.record_model.specs.Records.{Record, published};
-ghost use Rattle.record_model.specs.declared.config.Config.{Config};
+ghost use Rattle.cube_math.specs.declared.config.Config.{Config};
 ghost use Rattle.record_model.specs.declared.event.Event.{Event};
 ghost use Rattle.record_model.specs.declared.event.Event.TheVariants.{Admission, Look, Publication};
 ghost use Rattle.chunk_needs.specs.Leaves.{counts_of, is_leaf_of, leaves, number_in, split_leaves};

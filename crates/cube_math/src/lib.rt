@@ -1,7 +1,8 @@
-//! Points, cubes of space with their octants and cells, paths of nodes, and batches of points.
+//! Points, cubes of space with their octants and cells, paths of nodes, batches of points, and the bounds of a store.
 #![tactic(auto)]
 
 mod batch;
+mod config;
 mod cube;
 mod path;
 mod point;
@@ -10,7 +11,8 @@ mod refused;
 mod tests;
 
 pub use batch::{Batch, BatchRefusal, first_outside};
+pub use config::{Config, Entry};
 pub use cube::Cube;
 pub use path::Path;
 pub use point::Point;
-pub use refused::{Cause, RefusedRow};
+pub use refused::{Cause, Refused, RefusedRow};

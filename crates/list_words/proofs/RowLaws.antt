@@ -7,7 +7,7 @@ use Rattle.std.proofs.lemmas.List.Sums.{sum_by-cons, sum_by-set}
 use Rattle.std.proofs.lemmas.Bool.{cases_eq, cases_lt}
 use Rattle.std.proofs.lemmas.List.{length-set, get_or-set_same, get_or-set_other, get_or_past, set_past}
 use Rattle.list_machine.specs.declared.views.Grant.{Grant}
-use Rattle.list_words.specs.Filing.{granted_in}
+use Rattle.list_machine.specs.Grants.{granted_in}
 use Rattle.list_words.specs.Store.{Store, Row, IsCleared, IsKeptOrCleared, IsOpen, IsReclaimed, IsShut, SameBesidesGranted, chunks_of, clear_rows, emptied, grant_rows, held_in, held_of, is_shut, more_granted, no_row, row, row_in, shut_now, shut_with, with_row}
 use Rattle.list_words.specs.declared.leaf_lists.Phase.{Phase}
 use Rattle.list_words.specs.declared.leaf_lists.Phase.TheVariants.{Fresh, Open, Shut}

@@ -1,7 +1,7 @@
 //! Laws of the store, as clauses of functions without code: what its rows are after a call.
 ghost use Rattle.std.specs.Prelude.{◌≡◌, ◌≢◌, ℕ, ◌+◌, ◌<◌, List, Option, Contains, length};
 ghost use Rattle.list_machine.specs.declared.views.Grant.{Grant};
-ghost use Rattle.list_words.specs.Filing.{granted_in};
+ghost use Rattle.list_machine.specs.Grants.{granted_in};
 ghost use Rattle.list_words.specs.Store.{IsCleared, IsKeptOrCleared, IsOpen, IsReclaimed, IsShut, Row, SameBesidesGranted, Store, admitted, chunks_of, held_of, row, shut_now, shut_with, with_chunk, with_row};
 ghost use Rattle.list_words.specs.declared.leaf_lists.Phase.TheVariants.{Open};
 

@@ -2,10 +2,8 @@
 //! definitions speak of, the definitions (in `specs/`), and laws about them as small public functions.
 #![tactic(auto)]
 
-mod config;
 mod event;
 mod laws;
 
-pub use config::Config;
 pub use event::{Act, Event};
 pub use laws::{admissions_go_on, events_add_to_their_own, journals_go_on};

@@ -10,7 +10,7 @@ use Rattle.octree_model.specs.declared.tree.Tree.TheOpen.{Tree-F}
 use Rattle.octree_model.specs.declared.tree.Tree.TheVariants.{Leaf, rolls-Leaf}
 use Rattle.octree_model.proofs.OctreeLaws.{leaf_by_count}
 use Rattle.record_model.specs.Records.{Record, journal}
-use Rattle.record_model.specs.declared.config.Config.{Config}
+use Rattle.cube_math.specs.declared.config.Config.{Config}
 use Rattle.record_model.specs.declared.event.Event.{Event}
 use Rattle.record_model.specs.declared.event.Event.TheVariants.{Admission, Look, Publication}
 use Rattle.record_model.proofs.RecordLaws.{length-journal}

@@ -7,7 +7,7 @@ use Rattle.octree_model.specs.Outlines.{outline}
 use Rattle.octree_model.specs.declared.outline.OutlineNode.{OutlineNode}
 use Rattle.record_model.specs.Admissions.{admitted_points}
 use Rattle.record_model.specs.Records.{Record, Entry, journal, published}
-use Rattle.record_model.specs.declared.config.Config.{Config}
+use Rattle.cube_math.specs.declared.config.Config.{Config}
 use Rattle.version_rows.specs.Versions.{BatchRowValue, NodeRowValue, VersionValue, is_inner}
 
 -- whether something was published

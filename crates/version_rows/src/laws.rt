@@ -2,7 +2,7 @@
 ghost use Rattle.std.specs.Prelude.{◌≡◌, ℕ, List, [], ◌∷◌, ◌++◌};
 ghost use Rattle.cube_math.specs.Points.{PointValue};
 ghost use Rattle.record_model.specs.Records.{Record};
-ghost use Rattle.record_model.specs.declared.config.Config.{Config};
+ghost use Rattle.cube_math.specs.declared.config.Config.{Config};
 ghost use Rattle.record_model.specs.declared.event.Event.TheVariants.{Admission, Look, Publication};
 ghost use Rattle.version_rows.specs.Journals.{IsVersionOf, up_to_publication};
 ghost use Rattle.version_rows.specs.Versions.{ChainsValue, Leaf};

@@ -1,6 +1,6 @@
-use cube_math::Cube;
+use crate::cube::Cube;
 
-/// What a store is made with: its root cube and its bounds.
+/// What a store of points is made with: its root cube and its bounds.
 #[derive(Clone, Copy, Debug, PartialEq, Eq)]
 pub struct Config {
     /// The cube of the octree's root.
@@ -15,4 +15,12 @@ pub struct Config {
     pub chunks: u32,
     /// The most points of a batch, 1 to 50,000.
     pub batch: u32,
+}
+
+/// A published batch in a journal: the number of its input, from 0, its loader, and how many points it has.
+#[derive(Clone, Copy, Debug, PartialEq, Eq)]
+pub struct Entry {
+    pub input: u32,
+    pub loader: u32,
+    pub len: u32,
 }

@@ -1,5 +1,5 @@
 -- Files in memory: which are found, and where those stand that were opened.
-use Rattle.std.proofs.Common.{◌≡◌, ℕ, suc, zero, ◌+◌, ◌-◌, ◌^◌, ◌<◌, ◌≤◌, min, List, ◌++◌, [], ◌∷◌, length, length-append, length-drop, map, get_or, set, take, drop, Option, Some, None, subst, sym, ap, ◌∙◌, refl, cond, arith, All, string_bytes, Bool, true, false, ◌||◌}
+use Rattle.std.proofs.Common.{◌≡◌, ℕ, ◌+◌, ◌-◌, ◌<◌, ◌≤◌, min, List, ◌++◌, [], ◌∷◌, length, length-append, length-drop, map, get_or, set, take, drop, Option, Some, None, subst, sym, ap, ◌∙◌, refl, cond, arith, All, string_bytes, Bool, true, false, ◌||◌}
 use Rattle.std.proofs.lemmas.List.{length-map, length-take-le, map-append, map-set, take_at}
 use Rattle.std.specs.Prelude.{IsSome, is_some, Ok, slice_get, option_map, unwrap_or, if◌then◌else◌}
 use Rattle.std.specs.List.{position_or_len}

@@ -1,5 +1,5 @@
 -- The first bytes of a file that is told, as far as a reading has come.
-use Rattle.std.proofs.Common.{◌≡◌, ℕ, zero, suc, ◌+◌, ◌-◌, ◌<◌, ◌≤◌, Bool, true, false, ◌&&◌, ◌||◌, List, ◌++◌, [], ◌∷◌, set, take, drop, length, Option, Some, None, subst, sym, ap, ◌∙◌, refl, arith, length-append}
+use Rattle.std.proofs.Common.{◌≡◌, ℕ, zero, suc, ◌+◌, ◌<◌, ◌≤◌, Bool, true, false, ◌&&◌, ◌||◌, List, ◌++◌, [], ◌∷◌, set, take, drop, length, Option, Some, None, subst, sym, ap, ◌∙◌, refl, arith, length-append}
 use Rattle.std.proofs.lemmas.Bool.{lt-ltb}
 use Rattle.std.proofs.lemmas.List.{append-nil, length-take-le, take_all}
 use Rattle.std.specs.Prelude.{IfSome, IsSome, IsSomeAnd, IsTrue, nat_eq, nat_lt, slice_get, unwrap_or}

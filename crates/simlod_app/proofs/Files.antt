@@ -4,7 +4,7 @@ use Rattle.std.specs.Prelude.{Vec, IfSome, IsSomeAnd, IfOk, IsTrue, option_map}
 use Rattle.std.proofs.lemmas.Bool.{lt-ltb, le-ltb}
 use Rattle.std.proofs.lemmas.List.{append-nil}
 use Rattle.cloud_io.specs.Counts.{Rose, HasCauses}
-use Rattle.cloud_io.specs.Files.{Folder, Opened, OpenedFile, IsGivenBy, begun, finished}
+use Rattle.cloud_io.specs.Files.{Folder, Opened, OpenedFile, begun, finished}
 use Rattle.cloud_io.specs.Whole.{OpensAs, ReadsWhole, ReadsTo, StopsWithin}
 use Rattle.cloud_io.specs.declared.faults.ReadFault.{ReadFault}
 use Rattle.cloud_io.specs.declared.faults.ReadFault.TheVariants as reading

@@ -1,7 +1,7 @@
 -- The files that a run has opened, and what is known of all files by them.
-use Rattle.std.proofs.Common.{◌≡◌, ◌⊎◌, inl, inr, ℕ, ◌+◌, ◌-◌, List, [], ◌∷◌, ◌++◌, map, length, length-append, take, drop, Some, None, Option, Result, Ok, Err, ap, ◌∙◌, sym, refl, subst, arith, append_assoc}
-use Rattle.std.specs.Prelude.{All, IfSome, IsSomeAnd, IsTrue, option_map, unwrap_or}
-use Rattle.std.proofs.lemmas.List.{append-nil, length-map, map-append, take_all}
+use Rattle.std.proofs.Common.{◌≡◌, ◌⊎◌, inl, inr, ℕ, ◌+◌, ◌-◌, List, [], ◌∷◌, ◌++◌, map, length, length-append, take, drop, Some, None, Option, Ok, ap, ◌∙◌, sym, refl, subst, arith, append_assoc}
+use Rattle.std.specs.Prelude.{All, IfSome, IsSomeAnd, IsTrue, option_map}
+use Rattle.std.proofs.lemmas.List.{append-nil, length-map, map-append}
 use Rattle.std.proofs.lemmas.List.Elements.{All-nil, All-append, All-cons, All-head, All-tail, All-take}
 use Rattle.std.proofs.Math.Seq.{take-append_seam, drop-append_seam}
 use Rattle.std.specs.Io.{StartsWith}
@@ -10,7 +10,7 @@ use Rattle.cube_math.specs.Points.{PointValue}
 use Rattle.run_report.specs.declared.fault.Fault.{Fault}
 use Rattle.run_words.specs.Commands.{Text}
 use Rattle.simlod_app.specs.declared.reading.Reading.{Reading}
-use Rattle.simlod_app.specs.Reads.{AllEnded, AreOpened, AreReadWhole, IsOpened, IsReadFor, MayCutShort, OfFile, OfFiles, files_in, files_read, listed, source_of, unknown}
+use Rattle.simlod_app.specs.Reads.{AllEnded, AreOpened, AreReadWhole, IsOpened, MayCutShort, OfFile, OfFiles, files_in, files_read, listed, source_of, unknown}
 use Rattle.simlod_app.specs.Runs.{Source, Framed, clouds_of, framed_in, frame_step}
 use Rattle.simlod_app.proofs.Readings.{HaveClouds, have_clouds, one_more}
 

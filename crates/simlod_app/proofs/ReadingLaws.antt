@@ -10,7 +10,7 @@ use Rattle.simlod_app.specs.declared.reading.Reading.{Reading}
 use Rattle.simlod_app.specs.Dues.{IsDue}
 use Rattle.simlod_app.specs.Outcomes.{IsReached}
 use Rattle.simlod_app.specs.Reads.{AllEnded, AreOpened, IsOpened, MayCutShort, OfFile, OfFiles, listed, source_of}
-use Rattle.simlod_app.specs.Runs.{Source, Framed, clouds_of, framed_in, frame_step}
+use Rattle.simlod_app.specs.Runs.{Framed, clouds_of, framed_in, frame_step}
 use Rattle.simlod_app.proofs.Openings.{AreRead, is_ended, of_files, opened_next, read_for_next}
 use Rattle.simlod_app.proofs.Readings.{refused_frame, refused_next}
 

@@ -1,5 +1,5 @@
 -- Files read one after the other.
-use Rattle.std.proofs.Common.{◌≡◌, ℕ, suc, ◌+◌, ◌<◌, ◌≤◌, get_or, subst, String, Global, List, [], ◌∷◌, ◌++◌, map, length, take, drop, Some, None, Option, Result, Ok, Err, ap, ◌∙◌, sym, refl, arith}
+use Rattle.std.proofs.Common.{◌≡◌, ℕ, suc, ◌+◌, ◌<◌, ◌≤◌, get_or, String, Global, List, [], ◌∷◌, ◌++◌, map, length, take, drop, Some, Option, Result, Ok, Err, ap, ◌∙◌, sym, refl, arith}
 use Rattle.std.specs.Prelude.{IsOk, string_bytes}
 use Rattle.std.proofs.lemmas.List.{map-append, take-append-drop, take_more}
 use Rattle.std.proofs.Math.Seq.{drop-cons}

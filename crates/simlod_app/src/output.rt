@@ -25,7 +25,8 @@ pub fn job_output<I: Inputs>(alloc: Global, inputs: &mut I, job: &Job) -> Result
     ensures gives { (opened : Opened) × AreOpened (I.files inputs.old) job.now.files (I.opened inputs.old) (I.opened inputs.new) opened
         × AreReadFor result job.now.files opened
         × OfFiles (I.files inputs.old) job.now.files opened (λ files.
-        GivesOver (λ name. IsReached (reading_of job.now) files name × Rose (I.faults inputs.old) (I.faults inputs.new)) (Rose (I.missing inputs.old) (I.missing inputs.new))
+        GivesOver (λ name. IsReached (reading_of job.now) files name × Rose (I.faults inputs.old) (I.faults inputs.new))
+        (Rose (I.missing inputs.old) (I.missing inputs.new))
         vec_items result (job_output job.now files)) }
 {
     let clouds = read_clouds(alloc, inputs, job.files.as_slice(), reading_of(job))?;

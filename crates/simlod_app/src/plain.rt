@@ -26,8 +26,10 @@ pub fn simlod_plain<I: Inputs, K: Sink, E: Sink>(
 ) -> Status
     ensures kept { I.files inputs.new ≡ I.files inputs.old }
     ensures run { IsRun (I.files inputs.old) (map string_bytes words.now)
-        (outside (I.opened inputs.old) (I.faults inputs.old) (I.missing inputs.old) (K.contents out.old) (K.faults out.old) (E.contents errors.old) (E.faults errors.old))
-        (outside (I.opened inputs.new) (I.faults inputs.new) (I.missing inputs.new) (K.contents out.new) (K.faults out.new) (E.contents errors.new) (E.faults errors.new)) result }
+        (outside (I.opened inputs.old) (I.faults inputs.old) (I.missing inputs.old)
+        (K.contents out.old) (K.faults out.old) (E.contents errors.old) (E.faults errors.old))
+        (outside (I.opened inputs.new) (I.faults inputs.new) (I.missing inputs.new)
+        (K.contents out.new) (K.faults out.new) (E.contents errors.new) (E.faults errors.new)) result }
 {
     match words_output(alloc, words, inputs) {
         Err(fault) => refuse(alloc, &fault, errors),
@@ -49,10 +51,12 @@ fn words_output<I: Inputs>(
 ) -> Result<Vec<u8>, Fault>
     ensures kept { I.files inputs.new ≡ I.files inputs.old }
     ensures axis { IfErr result HasAxis }
-    ensures gives { (opened : Opened) × AreOpened (I.files inputs.old) (job_files (map string_bytes words.now)) (I.opened inputs.old) (I.opened inputs.new) opened
+    ensures gives { (opened : Opened)
+        × AreOpened (I.files inputs.old) (job_files (map string_bytes words.now)) (I.opened inputs.old) (I.opened inputs.new) opened
         × AreReadFor result (job_files (map string_bytes words.now)) opened
         × OfFiles (I.files inputs.old) (job_files (map string_bytes words.now)) opened (λ files.
-        GivesOver (λ name. IsNextOf (map string_bytes words.now) files name × Rose (I.faults inputs.old) (I.faults inputs.new)) (Rose (I.missing inputs.old) (I.missing inputs.new))
+        GivesOver (λ name. IsNextOf (map string_bytes words.now) files name × Rose (I.faults inputs.old) (I.faults inputs.new))
+        (Rose (I.missing inputs.old) (I.missing inputs.new))
         vec_items result (words_output (map string_bytes words.now) files)) }
 {
     let job = read_job(alloc, words)?;

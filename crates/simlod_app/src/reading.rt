@@ -67,7 +67,8 @@ pub fn read_clouds<I: Inputs>(
     ensures gives { (opened : Opened) × AreOpened (I.files inputs.old) (map string_bytes names.now) (I.opened inputs.old) (I.opened inputs.new) opened
         × AreReadFor result (map string_bytes names.now) opened
         × OfFiles (I.files inputs.old) (map string_bytes names.now) opened (λ files.
-        GivesOver (λ name. IsReached how files name × Rose (I.faults inputs.old) (I.faults inputs.new)) (Rose (I.missing inputs.old) (I.missing inputs.new))
+        GivesOver (λ name. IsReached how files name × Rose (I.faults inputs.old) (I.faults inputs.new))
+        (Rose (I.missing inputs.old) (I.missing inputs.new))
         (λ clouds. map vec_items clouds.items) result (clouds_of how files)) }
 {
     let mut clouds = Vec::new(alloc);
@@ -121,7 +122,8 @@ fn read_cloud<I: Inputs>(
     ensures gives { (file : Option OpenedFile) × IsOpened (I.files inputs.old) name.now (I.opened inputs.old) (I.opened inputs.new) file
         × IsReadFor result file
         × OfFile (I.files inputs.old) name.now file (λ content.
-        GivesOver (λ failed. (failed ≡ name.now) × Rose (I.faults inputs.old) (I.faults inputs.new)) (Rose (I.missing inputs.old) (I.missing inputs.new))
+        GivesOver (λ failed. (failed ≡ name.now) × Rose (I.faults inputs.old) (I.faults inputs.new))
+        (Rose (I.missing inputs.old) (I.missing inputs.new))
         (λ c. (c.points.items, c.frame)) result (framed_in how name.now content)) }
 {
     let bytes = match read_all(alloc, inputs, name, MOST_BYTES) {

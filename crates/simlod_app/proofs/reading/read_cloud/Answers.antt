@@ -1,4 +1,4 @@
-use Rattle.simlod_app.proofs.Files.{IsDueOf, IsParsed, not_read, parsed}
+use Rattle.simlod_app.proofs.Files.{not_read, parsed}
 use Rattle.simlod_app.proofs.reading.read_cloud.Goals as goal
 
 pub returns-in-Err-clause-gives : goal.returns-in-Err-clause-gives

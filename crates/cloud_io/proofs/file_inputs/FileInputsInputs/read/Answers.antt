@@ -1,4 +1,3 @@
-use Rattle.std.proofs.Common.{arith}
 use Rattle.cloud_io.proofs.SystemReads.{within, reads_number, consumes_number}
 use Rattle.cloud_io.proofs.file_inputs.FileInputsInputs.read.Goals as goal
 

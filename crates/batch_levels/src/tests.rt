@@ -207,8 +207,14 @@ fn batches_give_the_octree_of_all_points(rt: HostRuntime) -> Result<(), Fail> {
             levels = with_batch(levels, rt.alloc(), &cube, points)?;
             let tree = octree_of(rt.alloc(), &all, cube, row.leaf)?;
             let root = levels.root();
-            let agreeing =
-                agreeing_nodes(rt.alloc(), &mut table, &levels, root, &tree, Path::root());
+            let agreeing = agreeing_nodes(
+                rt.alloc(),
+                &mut table,
+                &levels,
+                root,
+                &tree,
+                Path::root(),
+            );
             assert_eq!(rt; agreeing, Some(levels.skeleton().nodes()));
             assert_eq!(rt; levels.total() as usize, all.len());
         }

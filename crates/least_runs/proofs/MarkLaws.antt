@@ -167,6 +167,7 @@ cleared_more words words' first i l is before w from to = elim (cases_eq w i) [
   | inl same ↦ ap (λ (ws : List ℕ). get_or ws w 0) is ∙ ap (λ k. get_or (set words i 0) k 0) same ∙ get_or-set_same words i 0 0 l
   | inr other ↦ ap (λ (ws : List ℕ). get_or ws w 0) is ∙ get_or-set_other words i w 0 0 other ∙ before w from (omega arith)
 ]
+
 pub others_stay : (old words words' : List ℕ) (i : ℕ) → i < length words → words' ≡ set words i 0 → ((w : ℕ) → (get_or words w 0 ≡ 0) ⊎ (get_or words w 0 ≡ get_or old w 0)) → (w : ℕ) → (get_or words' w 0 ≡ 0) ⊎ (get_or words' w 0 ≡ get_or old w 0)
 others_stay old words words' i l is before w = elim (cases_eq w i) [
   | inl same ↦ inl (cleared_more words words' i i l is (λ v from to. absurd (omega arith)) w (omega arith) (omega arith))

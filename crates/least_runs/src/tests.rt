@@ -42,8 +42,11 @@ const CUBE: Cube = Cube {
     oz: 0,
     bits: 8,
 };
+
 const WHITE: [u8; 3] = [255, 255, 255];
+
 const RED: [u8; 3] = [255, 0, 0];
+
 const BLUE: [u8; 3] = [0, 0, 255];
 
 #[test]
@@ -106,8 +109,18 @@ fn no_points_and_no_runs_give_no_voxels(rt: HostRuntime) -> Result<(), Fail> {
 #[test]
 fn a_join_takes_the_lesser_key_whichever_run_has_it(rt: HostRuntime) -> Result<(), Fail> {
     let mut table = CellTable::new(rt.alloc())?;
-    let white = run(rt.alloc(), &mut table, &CUBE, &[point(0, WHITE), point(4, RED)])?;
-    let blue = run(rt.alloc(), &mut table, &CUBE, &[point(1, BLUE), point(5, RED)])?;
+    let white = run(
+        rt.alloc(),
+        &mut table,
+        &CUBE,
+        &[point(0, WHITE), point(4, RED)],
+    )?;
+    let blue = run(
+        rt.alloc(),
+        &mut table,
+        &CUBE,
+        &[point(1, BLUE), point(5, RED)],
+    )?;
     let nearest = [
         Near {
             far: 2,
@@ -162,7 +175,12 @@ fn runs_are_joined_at_1024_entries_more_or_64_runs(rt: HostRuntime) -> Result<()
 }
 
 /// So many points of the cube in few cells or in many, in one of four colours.
-fn draw(alloc: Global, dice: &mut Dice, many: usize, side: usize) -> Result<Vec<Point>, AllocError> {
+fn draw(
+    alloc: Global,
+    dice: &mut Dice,
+    many: usize,
+    side: usize,
+) -> Result<Vec<Point>, AllocError> {
     let mut points = Vec::new(alloc);
     for _point in 0..many {
         points.push(Point::new(

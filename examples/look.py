@@ -178,7 +178,14 @@ class Look:
     def __init__(self, scan, sides, wide, drop):
         self.scan = scan
         boxes = boxes_of(fine_listing(scan), scan.bounds["min"], scan.bounds["max"])
-        self.cameras = {side: camera_of(boxes, side, scan.parts(), wide, drop) for side in sides}
+        self.cameras = {}
+        for side in sides:
+            try:
+                self.cameras[side] = camera_of(boxes, side, scan.parts(), wide, drop)
+            except NoCamera as why:
+                if len(sides) == 1:
+                    raise
+                print(f"note: {why}")
 
     def words(self, side):
         return ["image", *self.scan.options, *self.cameras[side].words(), *self.scan.files]
@@ -269,7 +276,7 @@ def look(given):
             pictures = view.draw()
         if is_empty(pictures.values(), scan):
             print("note: the picture is nearly empty: a few points may lie far off; try --drop 0.001")
-    for side in sides:
+    for side in view.cameras:
         print(view.command(side, side_name(out, side) if given.all else out))
     if not given.print:
         write(out, page_of(pictures) if given.all else pictures[given.side])

@@ -113,7 +113,7 @@ class Reach:
     def __init__(self, boxes, rows, drop):
         middle = middle_of(boxes)
         spots = [it for box in boxes for it in corners(box, middle)]
-        self.right, self.down, self.depth = ([along(row, it) / 1024 for it in spots] for row in rows)
+        self.right, self.down, self.depth = ([(a * x + b * y + c * z) / 1024 for x, y, z in spots] for a, b, c in rows)
         self.weights = [box.points for box in boxes for _ in range(8)]
         self.left_out = drop * sum(self.weights)
 

@@ -254,7 +254,16 @@ def edges_of_all(lists):
     return edges([it for values in lists for it in values[:: max(1, len(values) // 100_000)]])
 
 
+def build(program):
+    """Runs the program on next to nothing, so that a launcher that builds it first is heard while it does."""
+    words = [program, "bounds", f"{TOP}/examples/three.xyz"]
+    status = subprocess.run(words, stdin=subprocess.DEVNULL, stdout=subprocess.DEVNULL).returncode
+    if status:
+        sys.exit(status)
+
+
 def look(given):
+    build(given.program)
     sides = SIDES if given.all else (given.side,)
     files = [f"./{it}" if it.startswith("-") else it for it in given.scan]
     name = os.path.splitext(os.path.basename(files[0]))[0]

@@ -72,10 +72,9 @@ class Scan:
             if not self.fits(decimals + 1):
                 break
             decimals += 1
-        if decimals == USUAL_DECIMALS:
-            self.measure(None)
-        else:
-            self.measure(decimals)
+        self.options = []
+        if decimals != USUAL_DECIMALS:
+            self.options = [f"--decimals={decimals}"]
             print(f"decimals: {decimals}, where {USUAL_DECIMALS} are usual (--decimals={decimals})")
 
     def fits(self, decimals):

@@ -116,7 +116,7 @@ def text_points(name):
 
 def text_value(name, number, fields, by):
     if by == "intensity" and len(fields) not in (4, 7):
-        raise NotRead(f"{name}: line {number} has no intensity: take --by height")
+        raise NotRead(f"{name}: line {number} has no intensity: colour it by height")
     try:
         return float(fields[2 if by == "height" else 3])
     except ValueError:

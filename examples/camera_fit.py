@@ -122,10 +122,10 @@ class Reach:
         if not self.left_out:
             return max(values)
         rest = self.left_out
-        for value, weight in sorted(zip(values, self.weights), reverse=True):
-            rest -= weight
+        for at in sorted(range(len(values)), key=values.__getitem__, reverse=True):
+            rest -= self.weights[at]
             if rest < 0:
-                return value
+                return values[at]
         return min(values)
 
     def back(self, across, half, focal):

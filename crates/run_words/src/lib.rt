@@ -1,6 +1,7 @@
 //! The words of a command line: the commands, their options, and the job that the words stand for.
 #![tactic(auto)]
 
+mod chunks;
 mod command;
 mod form;
 mod job;
@@ -10,6 +11,7 @@ mod screen;
 mod value;
 mod words;
 
+pub use chunks::default_chunks;
 pub use command::CommandName;
 pub use job::Job;
 pub use option::OptionName;

@@ -1,5 +1,5 @@
 -- Where a sweep has marked all places, no slot of the list changes until the clearing of the list begins.
-use Rattle.std.proofs.Common.{◌≡◌, ℕ, zero, suc, ◌+◌, ◌*◌, ◌<◌, ◌≤◌, ◌≢◌, Bool, true, false, List, [], ◌∷◌, ◌++◌, length, set, sym, refl, ap, ◌∙◌, subst, arith}
+use Rattle.std.proofs.Common.{◌≡◌, ℕ, suc, ◌+◌, ◌*◌, ◌<◌, ◌≤◌, ◌≢◌, true, false, List, length, set, sym, refl, ap, ◌∙◌, subst, arith}
 use mathlib.Core.Logic.{dite}
 use native.Mathlib.Decide.{dec_le}
 use Rattle.list_machine.specs.Words.{Word, blank, holding, raised}
@@ -12,7 +12,6 @@ use Rattle.list_machine.specs.declared.views.Fact.TheVariants.{Link}
 use Rattle.list_machine.specs.declared.views.Grant.{Grant}
 use Rattle.list_machine.specs.declared.views.Leaf.{Leaf}
 use Rattle.list_machine.specs.declared.views.Guest.{Guest}
-use Rattle.list_machine.specs.declared.views.Stage.{Stage}
 use Rattle.list_machine.specs.declared.views.Stage.TheVariants.{Open, Swept, Cleared}
 use Rattle.list_machine.specs.declared.views.Unfiled.TheVariants.{Place}
 use Rattle.list_machine.proofs.Keeping.{run_sound}

@@ -1,5 +1,5 @@
 -- What the owner knows of a list stays true until the clearing of the list begins.
-use Rattle.std.proofs.Common.{◌≡◌, ℕ, zero, suc, ◌+◌, ◌≢◌, Bool, true, false, cond, List, [], ◌∷◌, ◌++◌, length, set, sym, refl, ap, ◌∙◌, subst, arith}
+use Rattle.std.proofs.Common.{◌≡◌, ℕ, zero, suc, ◌+◌, ◌≢◌, Bool, true, false, cond, List, [], ◌∷◌, length, set, sym, refl, ap, ◌∙◌, subst, arith}
 use Rattle.std.specs.Prelude.{filter, slice_get}
 use Rattle.std.proofs.lemmas.Bool.Decides.{nat_tests}
 use Rattle.std.proofs.lemmas.Option.{none-some, same_Some}
@@ -7,12 +7,11 @@ use mathlib.Core.Logic.{dite}
 use native.Mathlib.Decide.{ℕ_discrete}
 use Rattle.list_machine.specs.Facts.{IsAt, Holds, Stands, list_of}
 use Rattle.list_machine.specs.Machine.{State, IsSound, Step, claims, files, misses, reads, places, adopts, links, shuts, marks, first_clears, slot_clears, link_clears, clearing_ends, splits, joins, Run, none, more}
-use Rattle.list_machine.specs.Steps.{is_kept, with_stage, with_claimed, with_owned, with_one_used, with_grant, without_chains}
+use Rattle.list_machine.specs.Steps.{is_kept, with_stage, with_claimed, with_owned, with_one_used, without_chains}
 use Rattle.list_machine.specs.declared.views.Fact.{Fact}
 use Rattle.list_machine.specs.declared.views.Fact.TheVariants.{Item, Link, Closed, Empty}
 use Rattle.list_machine.specs.declared.views.Leaf.{Leaf}
-use Rattle.list_machine.specs.declared.views.Stage.{Stage}
-use Rattle.list_machine.specs.declared.views.Stage.TheVariants.{Open, Swept, Cleared}
+use Rattle.list_machine.specs.declared.views.Stage.TheVariants.{Swept, Cleared}
 use Rattle.list_machine.proofs.Keeping.{run_sound}
 use Rattle.list_machine.proofs.Lists.{at_same, at_set, at_set_same, at_right}
 use Rattle.list_machine.proofs.Seats.{each_granting}

@@ -1,25 +1,20 @@
 -- A clearing that has chunks has a word left to clear, since the last clear frees them.
-use Rattle.std.proofs.Common.{◌≡◌, ◌⊎◌, inl, inr, ⊎_elim, ℕ, zero, suc, ◌+◌, ◌-◌, ◌*◌, ◌/◌, ◌%◌, ◌<◌, ◌≤◌, ◌≢◌, Bool, true, false, cond, List, [], ◌∷◌, ◌++◌, length, set, replicate, refl, sym, ap, ◌∙◌, subst, arith}
-use Rattle.std.specs.Prelude.{◌==◌, slice_index, slice_index_or}
+use Rattle.std.proofs.Common.{◌≡◌, ◌⊎◌, inl, inr, ⊎_elim, ℕ, zero, suc, ◌*◌, ◌<◌, ◌≤◌, ◌≢◌, Bool, true, false, List, [], ◌∷◌, length, set, refl, sym, ap, ◌∙◌, subst, arith}
+use Rattle.std.specs.Prelude.{◌==◌, slice_index_or}
 use Rattle.std.proofs.lemmas.Bool.Decides.{nat_tests}
-use Rattle.list_machine.specs.Words.{blank}
-use Rattle.list_machine.specs.State.{Words, put_link, put_slot}
-use Rattle.list_machine.specs.Grants.{granted_in}
+use Rattle.list_machine.specs.State.{put_link}
 use Rattle.list_machine.specs.Facts.{IsAt}
 use Rattle.list_machine.specs.Machine.{State, state, IsSound, Run}
-use Rattle.list_machine.specs.Moves.{leaf_in, is_blank, is_clearing, may_begin, chunk_count, ended_if, cleared_by, cleared_in, word_cleared, next_to_clear, marked_by, slot_marked, item_filed, filed_if, Move, claiming, filing, reading, placing, adopting, linking, shutting, marking, clearing, splitting, joining, HaveWordsLeft}
-use Rattle.list_machine.specs.Steps.{after_first_clear, opening, opening_leaf, leaves_after_grants, with_leaf, with_stage, with_claimed, with_owned, with_one_used, with_grant, without_chains}
-use Rattle.list_machine.specs.declared.views.Grant.{Grant}
-use Rattle.list_machine.specs.declared.views.LinkWord.TheVariants.{OfList, OfChunk}
-use Rattle.list_machine.specs.declared.views.Owner.{Owner}
-use Rattle.list_machine.specs.declared.views.Guest.{Guest}
+use Rattle.list_machine.specs.Moves.{leaf_in, is_blank, chunk_count, ended_if, cleared_by, cleared_in, next_to_clear, marked_by, filed_if, Move, claiming, filing, reading, placing, adopting, linking, shutting, marking, clearing, splitting, joining, HaveWordsLeft}
+use Rattle.list_machine.specs.Steps.{after_first_clear, opening, opening_leaf, with_stage, with_claimed, with_owned, with_one_used, without_chains}
+use Rattle.list_machine.specs.declared.views.LinkWord.TheVariants.{OfList}
 use Rattle.list_machine.specs.declared.views.Stage.{Stage}
 use Rattle.list_machine.specs.declared.views.Stage.TheVariants.{Open, Swept, Cleared}
 use Rattle.list_machine.specs.declared.views.Leaf.{Leaf}
 use Rattle.list_machine.proofs.Lists.{each_set, at_set}
 use Rattle.list_machine.proofs.Seats.{each_granting}
 use Rattle.list_machine.proofs.Openings.{all_same}
-use Rattle.list_machine.proofs.Moves.{leaf_is, leaf_here, claim_run, file_run, read_run, place_run, adopt_run, link_run, shut_run, mark_run, split_run, join_run}
+use Rattle.list_machine.proofs.Moves.{leaf_is, claim_run, file_run, read_run, place_run, adopt_run, link_run, shut_run, mark_run, split_run, join_run}
 use Rattle.list_machine.proofs.ClearMoves.{clear_run}
 
 -- each move is a run

@@ -5,7 +5,7 @@ use mathlib.Core.Logic.{dite}
 use native.Mathlib.Decide.{dec_le}
 use Rattle.atomic_table.specs.Table.{State}
 use Rattle.batch_front.specs.Passes.{turn_of}
-use Rattle.batch_front.specs.Records.{Record, IsPrefix}
+use Rattle.record_model.specs.Records.{Record, IsPrefix}
 use Rattle.batch_front.specs.Turns.{At, Each, Has, Stands, Kept, first_seen}
 use Rattle.batch_front.specs.declared.rule.Card.{Card}
 use Rattle.batch_front.specs.declared.rule.Place.{Place}

@@ -1,7 +1,7 @@
 //! Laws of every state that the front's rule allows.
 ghost use Rattle.std.specs.Prelude.{◌≡◌, ℕ, ◌⊎◌, Option, Some};
 ghost use Rattle.atomic_table.specs.Table.{State};
-ghost use Rattle.batch_front.specs.Records.{IsPrefix};
+ghost use Rattle.record_model.specs.Records.{IsPrefix};
 ghost use Rattle.batch_front.specs.Turns.{At, Kept};
 ghost use Rattle.batch_front.specs.Passes.{FrontValue, pass_value};
 ghost use Rattle.batch_front.specs.declared.rule.View.{View};

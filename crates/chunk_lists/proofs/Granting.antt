@@ -5,7 +5,7 @@ use native.Mathlib.Decide.{ℕ_discrete, dec_le}
 use lib.Seq.{set-get_or}
 use Rattle.std.proofs.lemmas.List.Sums.{sum_by-cons}
 use Rattle.std.proofs.lemmas.Option.{get_or_from_slice_get}
-use Rattle.list_machine.specs.Grants.{granted_in as left_in, granted_in_all}
+use Rattle.list_machine.specs.Grants.{granted_in, granted_in_all}
 use Rattle.list_machine.specs.Facts.{total}
 use Rattle.list_machine.specs.Steps.{with_grant, leaves_after_grants, IsGrantable, opening_leaf}
 use Rattle.list_machine.specs.declared.views.Grant.{Grant}
@@ -43,12 +43,12 @@ miss : (l : ℕ) (x : Grant) → x.list ≢ l → one_in l x ≡ 0
 miss l x ne = ap (λ (b : Bool). cond b x.n 0) (ne_eqb x.list l ne)
 
 -- no grant of the list
-none_left : (l : ℕ) (gs : List Grant) → All (λ (x : Grant). x.list ≢ l) gs → left_in l gs ≡ 0
+none_left : (l : ℕ) (gs : List Grant) → All (λ (x : Grant). x.list ≢ l) gs → granted_in l gs ≡ 0
 none_left l [] all = refl
 none_left l (x ∷ gs) all = let a = miss l x (head_of (λ (x : Grant). x.list ≢ l) x gs all) in let r = none_left l gs (tail_of (λ (x : Grant). x.list ≢ l) x gs all) in omega arith
 
 -- what all grants meet holds of the one that has places left in the list, and that one has all of them
-pub granted_of : (P : Grant → Type 0) (l : ℕ) (gs : List Grant) → AllPairs (λ (x y : Grant). x.list ≢ y.list) gs → All P gs → 0 < left_in l gs → (x : Grant) × P x × (x.list ≡ l) × (left_in l gs ≡ x.n)
+pub granted_of : (P : Grant → Type 0) (l : ℕ) (gs : List Grant) → AllPairs (λ (x y : Grant). x.list ≢ y.list) gs → All P gs → 0 < granted_in l gs → (x : Grant) × P x × (x.list ≡ l) × (granted_in l gs ≡ x.n)
 granted_of P l [] apart all has = absurd (omega arith)
 granted_of P l (x ∷ gs) apart all has = dite (ℕ_discrete x.list l)
     (λ e. let a = hit l x e in let r = none_left l gs (λ k d lt is. apart 0 (suc k) d (omega arith) (omega arith) (e ∙ sym is)) in (x, head_of P x gs all, e, omega arith))
@@ -100,7 +100,7 @@ total_granted es (x ∷ gs) all =
     let sum : granted_in_all (x ∷ gs) ≡ x.n + granted_in_all gs = sum_by-cons (λ (h : Grant). h.n) x gs in omega arith
 
 -- the row of a list after grants
-row_granted : (gs : List Grant) (rows : List BookRow) (l : ℕ) → l < length rows → row_at (granted_rows gs rows) l ≡ granted_row (row_at rows l) (left_in l gs)
+row_granted : (gs : List Grant) (rows : List BookRow) (l : ℕ) → l < length rows → row_at (granted_rows gs rows) l ≡ granted_row (row_at rows l) (granted_in l gs)
 row_granted [] rows l lt = λ i. record (row_at rows l) { granted = (let e : (row_at rows l).granted ≡ (row_at rows l).granted + 0 = omega arith in e) i }
 row_granted (x ∷ gs) rows l lt =
     let r : BookRow = row_at rows x.list in
@@ -109,12 +109,12 @@ row_granted (x ∷ gs) rows l lt =
     ∙ dite (ℕ_discrete l x.list)
     (λ e. let here : row_at rows' l ≡ granted_row (row_at rows l) x.n = (λ i. get_or rows' (e i) fresh_row) ∙ (Rattle.std.proofs.Common.get_or-set_same rows x.list (granted_row r x.n) fresh_row (subst (λ (k : ℕ). k < length rows) e lt) ∙ (λ i. granted_row (row_at rows (sym e i)) x.n)) in
     let h = hit l x (sym e) in
-    ap (λ (q : BookRow). granted_row q (left_in l gs)) here
-    ∙ (λ i. record (row_at rows l) { granted = (let z : (row_at rows l).granted + x.n + left_in l gs ≡ (row_at rows l).granted + left_in l (x ∷ gs) = omega arith in z) i }))
+    ap (λ (q : BookRow). granted_row q (granted_in l gs)) here
+    ∙ (λ i. record (row_at rows l) { granted = (let z : (row_at rows l).granted + x.n + granted_in l gs ≡ (row_at rows l).granted + granted_in l (x ∷ gs) = omega arith in z) i }))
     (λ ne. let there : row_at rows' l ≡ row_at rows l = get_or-set_other rows x.list l (granted_row r x.n) fresh_row ne in
     let h = miss l x (λ is. ne (sym is)) in
-    ap (λ (q : BookRow). granted_row q (left_in l gs)) there
-    ∙ (λ i. record (row_at rows l) { granted = (let z : (row_at rows l).granted + left_in l gs ≡ (row_at rows l).granted + left_in l (x ∷ gs) = omega arith in z) i }))
+    ap (λ (q : BookRow). granted_row q (granted_in l gs)) there
+    ∙ (λ i. record (row_at rows l) { granted = (let z : (row_at rows l).granted + granted_in l gs ≡ (row_at rows l).granted + granted_in l (x ∷ gs) = omega arith in z) i }))
 
 rows_long : (gs : List Grant) (rows : List BookRow) → length (granted_rows gs rows) ≡ length rows
 rows_long [] rows = refl
@@ -134,7 +134,7 @@ module _ (lists chunks : ℕ) (g : Ledger) (b : BookValue) (t : AreTied lists ch
   leaves' = leaves_after_grants 0 g.owner.book.leaves gs
 
   -- a list in which places are granted is open
-  granted_open : (l : ℕ) → 0 < left_in l gs → ((row_at b.rows l).phase ≡ Open) × ((row_at b.rows l).granted + left_in l gs ≤ 256 * length (row_at b.rows l).claimed)
+  granted_open : (l : ℕ) → 0 < granted_in l gs → ((row_at b.rows l).phase ≡ Open) × ((row_at b.rows l).granted + granted_in l gs ≤ 256 * length (row_at b.rows l).claimed)
   granted_open l has =
       let x = granted_of (HasSlots b) l gs may.apart may.takes has in
       let slots = subst (λ (k : ℕ). (row_at b.rows k).granted + x.0.n ≤ 256 * length (row_at b.rows k).claimed) x.2 x.1.slots in
@@ -155,16 +155,16 @@ module _ (lists chunks : ℕ) (g : Ledger) (b : BookValue) (t : AreTied lists ch
   }
 
   -- the leaf of a list after grants
-  leaf_granted : (l : ℕ) → l < lists → get_or leaves' l opening_leaf ≡ with_grant (leaf_of g l) (left_in l gs)
-  leaf_granted l lt = get_or_from_slice_get leaves' l (with_grant (leaf_of g l) (left_in l gs)) opening_leaf (granting_at g.owner.book.leaves gs 0 l l (leaf_of g l) (omega arith) (leaf_at g lists l t.leaves lt))
+  leaf_granted : (l : ℕ) → l < lists → get_or leaves' l opening_leaf ≡ with_grant (leaf_of g l) (granted_in l gs)
+  leaf_granted l lt = get_or_from_slice_get leaves' l (with_grant (leaf_of g l) (granted_in l gs)) opening_leaf (granting_at g.owner.book.leaves gs 0 l l (leaf_of g l) (omega arith) (leaf_at g lists l t.leaves lt))
 
   granted_phase : (p : Phase) (l k : ℕ) (r : BookRow) (a : Leaf) (s : Notes) → (p ≡ Fresh → k ≡ 0) → IsInPhase p r a s → IsInPhase p (granted_row r k) (with_grant a k) s
   granted_phase Fresh l k r a s none x = (subst (λ (n : ℕ). with_grant a n ≡ opening_leaf) (sym (none refl)) ((λ i. with_grant (x.0 i) 0)), x.1)
   granted_phase Open l k r a s none x = x
   granted_phase Shut l k r a s none x = x
 
-  not_granted : (l : ℕ) → (row_at b.rows l).phase ≡ Fresh → left_in l gs ≡ 0
-  not_granted l e = dite (dec_le 1 (left_in l gs)) (λ has. let no : Fresh ≡ Open = sym e ∙ (granted_open l has).0 in absurd (cc)) (λ n. omega arith)
+  not_granted : (l : ℕ) → (row_at b.rows l).phase ≡ Fresh → granted_in l gs ≡ 0
+  not_granted l e = dite (dec_le 1 (granted_in l gs)) (λ has. let no : Fresh ≡ Open = sym e ∙ (granted_open l has).0 in absurd (cc)) (λ n. omega arith)
 
   pub granted_tied : AreTied lists chunks (ledger_after_split g gs) (with_grants b gs)
   granted_tied = record {
@@ -176,7 +176,7 @@ module _ (lists chunks : ℕ) (g : Ledger) (b : BookValue) (t : AreTied lists ch
     cleared = t.cleared;
     out = (λ i. set (t.out i) (length (t.order i)) (suc (get_or (t.out i) (length (t.order i)) 0))) ∙ ap (set b.out (length b.order)) (let e : suc (get_or b.out (length b.order) 0) ≡ get_or b.out (length b.order) 0 + 1 = omega arith in e);
     given = total_granted g.owner.book.leaves gs all_below ∙ (let e = t.given in omega arith);
-    each = λ l lt. let one = t.each l lt in let k : ℕ = left_in l gs in
+    each = λ l lt. let one = t.each l lt in let k : ℕ = granted_in l gs in
         subst (λ (z : BookRow × Leaf). IsTiedRow z.0 z.1 (notes_of g l)) (λ i. (sym (row_granted gs b.rows l (let rows = t.rows in omega arith)) i, sym (leaf_granted l lt) i)) (record {
           claimed = one.claimed;
           owned = one.owned;

@@ -4,7 +4,7 @@ use Rattle.std.specs.Prelude.{Option, Some, None}
 use mathlib.Core.Logic.{dite}
 use native.Mathlib.Decide.{ℕ_discrete}
 use Rattle.list_machine.specs.Words.{Word}
-use Rattle.list_machine.specs.Grants.{granted_in as left_in, use_grant as use_of}
+use Rattle.list_machine.specs.Grants.{granted_in, use_grant}
 use Rattle.list_machine.specs.Facts.{IsAt}
 use Rattle.list_machine.specs.Steps.{KnowsChunk, after_claim}
 use Rattle.list_machine.specs.declared.views.Grant.{Grant}
@@ -26,9 +26,9 @@ use Rattle.list_filers.proofs.Walking.{Grows, grows_by, claim_grows, file_grows}
 use Rattle.list_filers.proofs.Going.{later_by}
 
 -- a list in which a grant is left had one before
-left_before : (l h : ℕ) (gs : List Grant) → 0 < left_in l gs → 0 < left_in h (use_of l gs) → 0 < left_in h gs
+left_before : (l h : ℕ) (gs : List Grant) → 0 < granted_in l gs → 0 < granted_in h (use_grant l gs) → 0 < granted_in h gs
 left_before l h gs some left = dite (ℕ_discrete h l)
-    (λ e. subst (λ (k : ℕ). 0 < left_in k gs) (sym e) some)
+    (λ e. subst (λ (k : ℕ). 0 < granted_in k gs) (sym e) some)
     (λ n. let same = used_else l h gs n in omega arith)
 
 used_still : (v u : Guest) (l c : ℕ) → Grows v.facts u.facts → IsUsed v l c → IsUsed u l c
@@ -51,10 +51,10 @@ is_index Shut = false
 
 -- a claim that found the list shut
 abbrev shut_guest : Guest → ℕ → Guest
-shut_guest v l = record v { grants = use_of l v.grants; claim = Nothing; facts = Closed l ∷ v.facts }
+shut_guest v l = record v { grants = use_grant l v.grants; claim = Nothing; facts = Closed l ∷ v.facts }
 
 if_shut : (v : Guest) (l : ℕ) (x : Word) → x.high ≡ true → after_claim v l x ≡ shut_guest v l
-if_shut v l x e = λ k. record v { grants = use_of l v.grants; claim = cond (e k) Nothing (Place l x.value); facts = cond (e k) (Closed l ∷ v.facts) v.facts }
+if_shut v l x e = λ k. record v { grants = use_grant l v.grants; claim = cond (e k) Nothing (Place l x.value); facts = cond (e k) (Closed l ∷ v.facts) v.facts }
 
 is_high : (x : Word) (b : Bool) → x.high ≡ b → Shut ≡ claimed_by x → x.high ≡ true
 is_high x true e is = e
@@ -63,7 +63,7 @@ is_high x false e is = let t : false ≡ true = ap is_index (is ∙ (λ k. cond 
 shut_is : (v u : Guest) (l : ℕ) → IsAfterClaim v u l Shut → u ≡ shut_guest v l
 shut_is v u l p = p.seat_is ∙ if_shut v l p.word (is_high p.word p.word.high refl p.answer_is)
 
-shut_ready : (v : Guest) (cursors : List Cursor) (l : ℕ) → IsReady v cursors → 0 < left_in l v.grants → IsReady (shut_guest v l) cursors
+shut_ready : (v : Guest) (cursors : List Cursor) (l : ℕ) → IsReady v cursors → 0 < granted_in l v.grants → IsReady (shut_guest v l) cursors
 shut_ready v cursors l r some = record {
   is_out = r.is_out;
   idle = refl;
@@ -71,7 +71,7 @@ shut_ready v cursors l r some = record {
   spent = λ i a p. spent_still v (shut_guest v l) a.list a.reached (grows_by (Closed l) v.facts) (r.spent i a p);
 }
 
-shut_filed : (w : WaysValue) (l x : ℕ) → IsReady w.guest w.cursors → 0 < left_in l w.guest.grants → HasFiled w (ways_with w (shut_guest w.guest l)) l x (Late SawShut)
+shut_filed : (w : WaysValue) (l x : ℕ) → IsReady w.guest w.cursors → 0 < granted_in l w.guest.grants → HasFiled w (ways_with w (shut_guest w.guest l)) l x (Late SawShut)
 shut_filed w l x r some = record {
   lists = refl;
   later = record { birth = refl; still_out = refl; knows = grows_by (Closed l) w.guest.facts };
@@ -80,7 +80,7 @@ shut_filed w l x r some = record {
   shown = (0, refl);
 }
 
-pub comes_late : (w u : WaysValue) (l x : ℕ) → IsReady w.guest w.cursors → 0 < left_in l w.guest.grants → u ≡ ways_with w u.guest → IsAfterClaim w.guest u.guest l Shut → HasFiled w u l x (Late SawShut)
+pub comes_late : (w u : WaysValue) (l x : ℕ) → IsReady w.guest w.cursors → 0 < granted_in l w.guest.grants → u ≡ ways_with w u.guest → IsAfterClaim w.guest u.guest l Shut → HasFiled w u l x (Late SawShut)
 comes_late w u l x r some rest p = subst (λ (y : WaysValue). HasFiled w y l x (Late SawShut)) (sym (rest ∙ ap (ways_with w) (shut_is w.guest u.guest l p))) (shut_filed w l x r some)
 
 -- a claim that got a place
@@ -129,7 +129,7 @@ shows : (v : Guest) (l c k x r : ℕ) (stands : Bool) → KnowsChunk (after_file
 shows v l c k x r true known = ((0, refl), (r, known))
 shows v l c k x r false known = ((0, refl), (r, known))
 
-module _ (w u y : WaysValue) (at l i c x : ℕ) (stands : Bool) (a : Cursor) (ready : IsReady w.guest w.cursors) (some : 0 < left_in l w.guest.grants) (here : IsAt w.cursors at a) (list : a.list ≡ l)
+module _ (w u y : WaysValue) (at l i c x : ℕ) (stands : Bool) (a : Cursor) (ready : IsReady w.guest w.cursors) (some : 0 < granted_in l w.guest.grants) (here : IsAt w.cursors at a) (list : a.list ≡ l)
     (rest : u ≡ ways_with w u.guest) (claimed : IsAfterClaim w.guest u.guest l (Index i)) (reached : HasReached u y at (i / 256) c) where
   abbrev pub last : WaysValue
   last = ways_with y (after_file y.guest l c (i % 256) x stands)
@@ -137,7 +137,7 @@ module _ (w u y : WaysValue) (at l i c x : ℕ) (stands : Bool) (a : Cursor) (re
   cursors_are : y.cursors ≡ set w.cursors at (cursor_at l (i / 256) c)
   cursors_are = stands_there u y at l (i / 256) c a (subst (λ (z : WaysValue). IsAt z.cursors at a) (sym rest) here) list reached ∙ (λ k. set (rest k).cursors at (cursor_at l (i / 256) c))
 
-  grants_are : y.guest.grants ≡ use_of l w.guest.grants
+  grants_are : y.guest.grants ≡ use_grant l w.guest.grants
   grants_are = reached.grants ∙ ap (λ (v : Guest). v.grants) claimed.seat_is
 
   -- the guest's life from the filing's start to its end
@@ -149,7 +149,7 @@ module _ (w u y : WaysValue) (at l i c x : ℕ) (stands : Bool) (a : Cursor) (re
   last_ready = record {
     is_out = later.still_out ∙ ready.is_out;
     idle = refl;
-    granted = λ h left. subst (λ (cs : List Cursor). HasCursor cs h) (sym cursors_are) (has_cursor_still w.cursors at l (i / 256) c h a here list (ready.granted h (left_before l h w.guest.grants some (subst (λ (gs : List Grant). 0 < left_in h gs) grants_are left))));
+    granted = λ h left. subst (λ (cs : List Cursor). HasCursor cs h) (sym cursors_are) (has_cursor_still w.cursors at l (i / 256) c h a here list (ready.granted h (left_before l h w.guest.grants some (subst (λ (gs : List Grant). 0 < granted_in h gs) grants_are left))));
     spent = subst (λ (cs : List Cursor). (j : ℕ) (b : Cursor) → IsAt cs j b → IsSpent last.guest b.list b.reached) (sym cursors_are)
         (each_set (λ j b. IsSpent last.guest b.list b.reached) w.cursors at (cursor_at l (i / 256) c) (λ j b n p. spent_still w.guest last.guest b.list b.reached later.knows (ready.spent j b p)) (uses_chunk y.guest l c (i % 256) x stands));
   }

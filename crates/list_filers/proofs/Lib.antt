@@ -3,6 +3,5 @@ pub mod Going
 pub mod Sent
 pub mod Shown
 pub mod Starts
-pub mod Uses
 pub mod Walking
 pub mod Worked

@@ -8,7 +8,7 @@ use Rattle.std.proofs.lemmas.List.{length-map, get_or-map}
 use Rattle.std.proofs.lemmas.List.Elements.{All-map}
 use Rattle.std.proofs.lemmas.List.Sorted.{All-permutation, Contains-permutation}
 use Rattle.std.proofs.lemmas.Map.Keys.{IsDistinct-from_apart, IsDistinct-IsPermutation, apart_from_distinct}
-use Rattle.list_machine.specs.Grants.{granted_in as left_in, granted_in_all}
+use Rattle.list_machine.specs.Grants.{granted_in, granted_in_all}
 use Rattle.list_machine.specs.Facts.{IsAt}
 use Rattle.list_machine.specs.declared.views.Grant.{Grant}
 use Rattle.list_machine.proofs.Lists.{at_below, at_same, at_nothing}
@@ -63,10 +63,10 @@ pub all_fresh : (gs : List Grant) (cursors : List Cursor) (lists : ℕ) → IsPe
 all_fresh gs cursors lists same within = All-permutation (λ (a : Cursor). (a.reached ≡ None) × (a.list < lists)) (map fresh_cursor gs) cursors same (All-map (λ (a : Cursor). (a.reached ≡ None) × (a.list < lists)) fresh_cursor gs (λ k d lt. (refl, within k d lt)))
 
 -- a list in which places are left has a grant
-some_grant : (l : ℕ) (gs : List Grant) → 0 < left_in l gs → (k : ℕ) × (g : Grant) × IsAt gs k g × (g.list ≡ l)
+some_grant : (l : ℕ) (gs : List Grant) → 0 < granted_in l gs → (k : ℕ) × (g : Grant) × IsAt gs k g × (g.list ≡ l)
 some_grant l [] some = absurd (omega arith)
 some_grant l (g ∷ gs) some = by (nat_eq g.list l) refl some (some_grant l gs) where
-  by : (b : Bool) → nat_eq g.list l ≡ b → 0 < cond b g.n 0 + left_in l gs → (0 < left_in l gs → (k : ℕ) × (h : Grant) × IsAt gs k h × (h.list ≡ l)) → (k : ℕ) × (h : Grant) × IsAt (g ∷ gs) k h × (h.list ≡ l)
+  by : (b : Bool) → nat_eq g.list l ≡ b → 0 < cond b g.n 0 + granted_in l gs → (0 < granted_in l gs → (k : ℕ) × (h : Grant) × IsAt gs k h × (h.list ≡ l)) → (k : ℕ) × (h : Grant) × IsAt (g ∷ gs) k h × (h.list ≡ l)
   by true is some later = (0, g, refl, let e : g.list ≡ l = grind (arith, nat_tests) in e)
   by false is some later = let t = later (omega arith) in (suc t.0, t.1, t.2, t.3)
 
@@ -76,7 +76,7 @@ at_map gs k g p = let lt = at_below gs k g p in
     (at_index (map fresh_cursor gs) k (fresh_cursor g) (let e = length-map gs fresh_cursor in omega arith))
 
 -- and so it has a cursor
-pub each_has_cursor : (gs : List Grant) (cursors : List Cursor) → IsPermutation (map fresh_cursor gs) cursors → (l : ℕ) → 0 < left_in l gs → HasCursor cursors l
+pub each_has_cursor : (gs : List Grant) (cursors : List Cursor) → IsPermutation (map fresh_cursor gs) cursors → (l : ℕ) → 0 < granted_in l gs → HasCursor cursors l
 each_has_cursor gs cursors same l some =
     let t = some_grant l gs some in
     let p = at_map gs t.0 t.1 t.2 in
@@ -91,7 +91,7 @@ pub starts_ready : (v : Guest) (birth lists : ℕ) (gs : List Grant) (cursors : 
 starts_ready v birth lists gs cursors new differ within same = record {
   is_out = ap (λ (u : Guest). u.out) new;
   idle = ap (λ (u : Guest). u.claim) new;
-  granted = λ l left. each_has_cursor gs cursors same l (subst (λ (hs : List Grant). 0 < left_in l hs) (ap (λ (u : Guest). u.grants) new) left);
+  granted = λ l left. each_has_cursor gs cursors same l (subst (λ (hs : List Grant). 0 < granted_in l hs) (ap (λ (u : Guest). u.grants) new) left);
   spent = λ i a p. spent_at_start v a.list a.reached (ap (λ (b : Cursor). b.reached) (sym (get_is cursors i a a p)) ∙ (all_fresh gs cursors lists same within i a (at_below cursors i a p)).0);
 }
 

@@ -1,6 +1,6 @@
 -- A filer on its ways: its seat, its cursors, and how many links it has walked.
 use Rattle.std.specs.Prelude.{◌≡◌, ℕ, ◌+◌, ◌*◌, ◌<◌, ◌≤◌, Bool, true, if◌then◌else◌, List, slice_set, length, Option, None, Some}
-use Rattle.list_machine.specs.Grants.{granted_in as left_in, use_grant as use_of}
+use Rattle.list_machine.specs.Grants.{granted_in, use_grant}
 use Rattle.list_machine.specs.Facts.{IsAt}
 use Rattle.list_machine.specs.Steps.{KnowsChunk}
 use Rattle.list_machine.specs.Walks.{IsWalk, WalkedLink}
@@ -92,7 +92,7 @@ IsSpent v l (Some p) = IsUsed v l p.chunk
 pub record IsReady (v : Guest) (cursors : List Cursor) : Type 0 where
   pub is_out : v.out ≡ true
   pub idle : v.claim ≡ Nothing
-  pub granted : (l : ℕ) → 0 < left_in l v.grants → HasCursor cursors l
+  pub granted : (l : ℕ) → 0 < granted_in l v.grants → HasCursor cursors l
   pub spent : (i : ℕ) (a : Cursor) → IsAt cursors i a → IsSpent v a.list a.reached
 
 -- what the guest knows bears the answer out: the slot has the item, or the list is shut, or the slot was marked while it was empty; and the chunk is one of the list's claimed chain
@@ -109,6 +109,6 @@ answer_of stands c k = if stands then At c k else Late (Moved c k)
 pub record HasFiled (w u : WaysValue) (l x : ℕ) (filed : Filed) : Type 0 where
   pub lists : u.lists ≡ w.lists
   pub later : IsLater w.guest u.guest
-  pub grants : u.guest.grants ≡ use_of l w.guest.grants
+  pub grants : u.guest.grants ≡ use_grant l w.guest.grants
   pub ready : IsReady u.guest u.cursors
   pub shown : IsShown u.guest l x filed

@@ -1,7 +1,7 @@
 //! A filer's seat, and its ways in the claimed chains of its lists: it walks on from where it stands, and never
 //! from the first link again.
 ghost use Rattle.std.specs.Prelude.{◌≡◌, ℕ, suc, ◌+◌, ◌*◌, ◌/◌, ◌%◌, ◌^◌, ◌<◌, ◌≤◌, length, None, All};
-ghost use Rattle.list_machine.specs.Grants.{granted_in as left_in};
+ghost use Rattle.list_machine.specs.Grants.{granted_in};
 ghost use Rattle.list_machine.specs.Facts.{IsAt};
 ghost use Rattle.list_machine.specs.Steps.{KnowsChunk};
 ghost use Rattle.list_machine.specs.declared.views.Unfiled.TheVariants.{Nothing, Place};
@@ -99,7 +99,7 @@ impl Ways {
         requires lists { self.old.lists ≡ lists.now }
         requires list { HasCursor self.old.cursors list }
         requires idle { self.old.guest.claim ≡ Nothing }
-        requires granted { 0 < left_in list self.old.guest.grants }
+        requires granted { 0 < granted_in list self.old.guest.grants }
         ensures rest { self.new ≡ ways_with self.old self.new.guest }
         ensures claimed { IsAfterClaim self.old.guest self.new.guest list result }
         ensures steps { steps.new ≡ steps.old + 1 }
@@ -200,7 +200,7 @@ impl Ways {
     ) -> Filed
         requires lists { self.old.lists ≡ lists.now }
         requires ready { IsReady self.old.guest self.old.cursors }
-        requires granted { 0 < left_in list self.old.guest.grants }
+        requires granted { 0 < granted_in list self.old.guest.grants }
         ensures filed { HasFiled self.old self.new list item result }
         ensures rises { self.old.walked ≤ self.new.walked }
         ensures most { self.new.walked ≤ self.new.lists.chunks }
@@ -223,7 +223,7 @@ impl Ways {
     ) -> Filed
         requires lists { self.old.lists ≡ lists.now }
         requires ready { IsReady self.old.guest self.old.cursors }
-        requires granted { 0 < left_in list self.old.guest.grants }
+        requires granted { 0 < granted_in list self.old.guest.grants }
         requires cursor { (a : Cursor) × IsAt self.old.cursors at a × (a.list ≡ list) × Stands self.old.lists.chunks self.old.guest self.old.walked a.list a.reached }
         ensures filed { HasFiled self.old self.new list item result }
         ensures rises { self.old.walked ≤ self.new.walked }

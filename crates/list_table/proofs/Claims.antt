@@ -2,7 +2,7 @@
 use Rattle.std.proofs.Common.{◌≡◌, ℕ, ◌+◌, ◌*◌, ◌%◌, ◌<◌, Bool, true, false, List, get_or, sym, refl, ap, ◌∙◌, subst, arith}
 use Rattle.list_machine.specs.Words.{Word, decode, one_more}
 use Rattle.list_machine.specs.State.{Words, put_claim}
-use Rattle.list_machine.specs.Grants.{granted_in as left_in}
+use Rattle.list_machine.specs.Grants.{granted_in}
 use Rattle.list_machine.specs.Facts.{IsAt}
 use Rattle.list_machine.specs.Layouts.{words_of}
 use Rattle.list_machine.specs.Machine.{claims}
@@ -85,7 +85,7 @@ pub record ClaimTold (v : Guest) (l n : ℕ) (u : Guest) : Type 0 where
   pub after : IsAfterClaim v u l (claimed_by (decode n))
   pub few : (decode n).value < 9223372036854775807
 
-pub claim_may : (lists chunks : ℕ) (v : Guest) (l : ℕ) → l < lists → v.claim ≡ Nothing → 0 < left_in l v.grants → GuestMay lists chunks v l (λ n. (n + 1) % 18446744073709551616) (ClaimTold v l)
+pub claim_may : (lists chunks : ℕ) (v : Guest) (l : ℕ) → l < lists → v.claim ≡ Nothing → 0 < granted_in l v.grants → GuestMay lists chunks v l (λ n. (n + 1) % 18446744073709551616) (ClaimTold v l)
 claim_may lists chunks v l lt idle has words g guests j c at small =
     let W : Words = words_of lists chunks words in
     let n : ℕ = get_or words l 0 in

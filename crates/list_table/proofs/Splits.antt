@@ -5,7 +5,7 @@ use mathlib.Core.List.{map-append}
 use lib.ListN.{get_elem?}
 use lib.Seq.{map-set}
 use Rattle.atomic_table.specs.Table.{Splits, Joins}
-use Rattle.list_machine.specs.Grants.{granted_in as left_in}
+use Rattle.list_machine.specs.Grants.{granted_in}
 use Rattle.list_machine.specs.Facts.{IsAt, HasChunk}
 use Rattle.list_machine.specs.Layouts.{words_of}
 use Rattle.list_machine.specs.Machine.{state, splits, joins, none}
@@ -41,12 +41,12 @@ granting_length n [] gs = refl
 granting_length n (a ∷ es) gs = ap suc (granting_length (suc n) es gs)
 
 numbers_granted : (chunks : ℕ) (leaves : List Leaf) (gs : List Grant) → AreNumbered chunks leaves → AreNumbered chunks (leaves_after_grants 0 leaves gs)
-numbers_granted chunks leaves gs s l c e at = each_granting (λ (l : ℕ) (e : Leaf). HasChunk e c → c < chunks) leaves gs 0 (λ i m a is q has. s i c a q (same_chunks a (with_grant a (left_in m gs)) refl refl c has)) l e at
+numbers_granted chunks leaves gs s l c e at = each_granting (λ (l : ℕ) (e : Leaf). HasChunk e c → c < chunks) leaves gs 0 (λ i m a is q has. s i c a q (same_chunks a (with_grant a (granted_in m gs)) refl refl c has)) l e at
 
 kept_granted : (leaves : List Leaf) (notes : List Notes) (facts : List Fact) (gs : List Grant) → AreKept leaves notes facts → AreKept (leaves_after_grants 0 leaves gs) notes facts
 kept_granted leaves notes facts gs kept = record {
   each_list = kept.each_list ∙ sym (granting_length 0 leaves gs);
-  noted = λ l e t at at'. each_granting (λ (l : ℕ) (e : Leaf). (t : Notes) → IsAt notes l t → IsNoted facts l e t e.stage) leaves gs 0 (λ i m a is q t at'. noted_granted facts i a t (left_in m gs) a.stage (kept.noted i a t q at')) l e at t at';
+  noted = λ l e t at at'. each_granting (λ (l : ℕ) (e : Leaf). (t : Notes) → IsAt notes l t → IsNoted facts l e t e.stage) leaves gs 0 (λ i m a is q t at'. noted_granted facts i a t (granted_in m gs) a.stage (kept.noted i a t q at')) l e at t at';
 }
 
 pub split_consistent : (lists chunks : ℕ) (words : List ℕ) (g : Ledger) (guests : List Guest) (gs : List Grant) → IsConsistent lists chunks words g guests → IsGrantable g.owner.book.leaves gs → IsConsistent lists chunks words (ledger_after_split g gs) (guests ++ newcomer g.owner gs ∷ [])

@@ -4,7 +4,7 @@ use mathlib.Core.Logic.{dite}
 use native.Mathlib.Decide.{dec_le}
 use Rattle.list_machine.specs.State.{put}
 use Rattle.list_machine.specs.Words.{Word, blank, holding, raised}
-use Rattle.list_machine.specs.Facts.{IsAt, Chain, claimed_chain, owned_chain, HasChunk, Holds, left_in, list_of}
+use Rattle.list_machine.specs.Facts.{IsAt, Chain, claimed_chain, owned_chain, HasChunk, Holds, granted_in, list_of}
 use Rattle.list_machine.specs.Machine.{State, IsSound, Step, claims, files, misses, reads, places, adopts, links, shuts, marks, first_clears, slot_clears, link_clears, clearing_ends, splits, joins, Run, none, more}
 use Rattle.list_machine.specs.Steps.{IsNextMark, KnowsChunk, with_grant, with_stage, with_claimed, with_owned, with_one_used, without_chains}
 use Rattle.list_machine.specs.declared.views.Fact.{Fact}
@@ -91,8 +91,8 @@ module _ (s : State) (sound : IsSound s) (l p f m : ℕ) (a : Leaf) (leaf : IsAt
   no_mark f' m' i claimed_chain e next = let found = ap found_in e in let marks = ap marks_in e in let at = next.0 in let low = next.1 in omega arith
   no_mark f' m' i owned_chain e next = let found = ap found_in e in let marks = ap marks_in e in let at = next.0 in let low = next.1 in omega arith
 
-  none_granted : (gs : List Grant) → ((h : ℕ) → 0 < left_in h gs → (e : Leaf) × IsAt s.owner.book.leaves h e × (e.stage ≡ Open) × (e.granted + left_in h gs ≤ 256 * length e.claimed)) → left_in l gs ≡ 0
-  none_granted gs open_lists = dite (dec_le 1 (left_in l gs))
+  none_granted : (gs : List Grant) → ((h : ℕ) → 0 < granted_in h gs → (e : Leaf) × IsAt s.owner.book.leaves h e × (e.stage ≡ Open) × (e.granted + granted_in h gs ≤ 256 * length e.claimed)) → granted_in l gs ≡ 0
+  none_granted gs open_lists = dite (dec_le 1 (granted_in l gs))
       (λ has. let z = open_lists l has in absurd (open_swept p f m z.0.stage z.2 (ap (λ (b : Leaf). b.stage) (at_same s.owner.book.leaves l z.0 a z.1 leaf) ∙ swept)))
       (λ no. omega arith)
 
@@ -128,7 +128,7 @@ module _ (s : State) (sound : IsSound s) (l p f m : ℕ) (a : Leaf) (leaf : IsAt
   one_step t (clearing_ends h p' n e at begun all) le = same_words t (stays h (without_chains e) (apart h e at (cleared_swept p' n p f m e.stage begun))) refl (λ x e q. q)
   one_step t (splits gs fit) le =
       let none_left = none_granted gs fit.lists in
-      same_words t (subst (λ (b : Leaf). IsAt t.owner.book.leaves l b) (with_none (left_in l gs) none_left) (granting_at s.owner.book.leaves gs 0 l l a (let k : l ≡ 0 + l = omega arith in k) leaf)) refl (λ x e q. q)
+      same_words t (subst (λ (b : Leaf). IsAt t.owner.book.leaves l b) (with_none (granted_in l gs) none_left) (granting_at s.owner.book.leaves gs 0 l l a (let k : l ≡ 0 + l = omega arith in k) leaf)) refl (λ x e q. q)
   one_step t (joins j v at out) le = same_words t leaf refl (λ x e q. (length v.facts + q.0, at_right v.facts s.owner.facts q.0 x q.1))
 
 -- lists are cleared one after another

@@ -1,7 +1,7 @@
 -- What the worked lists of the tests may do.
 use Rattle.std.proofs.Common.{◌≡◌, ℕ, zero, suc, ◌+◌, ◌*◌, ◌<◌, ◌≤◌, ◌/◌, ◌%◌, inl, List, [], ◌∷◌, length, get_or, set, sym, refl, ap, subst, arith}
 use Rattle.std.proofs.lemmas.Bool.Decides.{nat_tests}
-use Rattle.list_machine.specs.Grants.{granted_in as left_in}
+use Rattle.list_machine.specs.Grants.{granted_in}
 use Rattle.list_machine.specs.Facts.{IsAt}
 use Rattle.list_machine.specs.Steps.{opening_leaf, with_stage, with_claimed, with_grant, IsGrantable}
 use Rattle.list_machine.specs.declared.views.Grant.{Grant}
@@ -28,7 +28,7 @@ one_chunk c g = with_grant (with_claimed opening_leaf c) g ∷ opening_leaf ∷ 
 
 pub grantable : (c g : ℕ) → g < 256 → IsGrantable (one_chunk c g) one_place
 grantable c g few = record { lists = here; few = omega arith } where
-  here : (l : ℕ) → 0 < left_in l one_place → (a : Leaf) × IsAt (one_chunk c g) l a × (a.stage ≡ Open) × (a.granted + left_in l one_place ≤ 256 * length a.claimed)
+  here : (l : ℕ) → 0 < granted_in l one_place → (a : Leaf) × IsAt (one_chunk c g) l a × (a.stage ≡ Open) × (a.granted + granted_in l one_place ≤ 256 * length a.claimed)
   here zero some = (with_grant (with_claimed opening_leaf c) g, refl, refl, omega arith)
   here (suc l) some = absurd (grind (arith, nat_tests))
 

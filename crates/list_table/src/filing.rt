@@ -1,7 +1,7 @@
 //! The steps of guests: a filer claims, walks links and files, and a reader reads slots.
 ghost use Rattle.std.specs.Prelude.{◌≡◌, ℕ, ◌<◌, ◌≤◌, ◌%◌, Some};
 ghost use Rattle.list_machine.specs.Words.{decode};
-ghost use Rattle.list_machine.specs.Grants.{granted_in as left_in};
+ghost use Rattle.list_machine.specs.Grants.{granted_in};
 ghost use Rattle.list_machine.specs.declared.views.Unfiled.TheVariants.{Nothing};
 ghost use Rattle.list_table.specs.GuestMoves.{IsAfterClaim, MayFile, after_file, MayRead, after_read, IsSlotWord};
 ghost use Rattle.list_table.specs.OwnerMoves.{last_link};
@@ -19,7 +19,7 @@ impl SharedLists {
         requires name { seat.old.name ≡ self.now.name }
         requires list { list < self.now.lists }
         requires idle { seat.old.guest.claim ≡ Nothing }
-        requires granted { 0 < left_in list seat.old.guest.grants }
+        requires granted { 0 < granted_in list seat.old.guest.grants }
         ensures name { seat.new.name ≡ seat.old.name }
         ensures claimed { IsAfterClaim seat.old.guest seat.new.guest list result }
     {

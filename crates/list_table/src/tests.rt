@@ -1,5 +1,5 @@
 ghost use Rattle.std.specs.Prelude.{◌≡◌, ◌<◌, true, [], ◌∷◌, IfOk, IfSome};
-ghost use Rattle.list_machine.specs.Grants.{granted_in as left_in};
+ghost use Rattle.list_machine.specs.Grants.{granted_in};
 ghost use Rattle.list_machine.specs.Facts.{IsAt};
 ghost use Rattle.list_machine.specs.Steps.{IsGrantable, newcomer};
 ghost use Rattle.list_machine.specs.declared.views.LinkWord.TheVariants.{OfList};
@@ -45,7 +45,7 @@ fn claim_place(lists: &SharedLists, guest: &mut GuestSeat) -> Option<u64>
     requires name { guest.old.name ≡ lists.now.name }
     requires list { 0 < lists.now.lists }
     requires idle { guest.old.guest.claim ≡ Nothing }
-    requires granted { 0 < left_in 0 guest.old.guest.grants }
+    requires granted { 0 < granted_in 0 guest.old.guest.grants }
     ensures name { guest.new.name ≡ guest.old.name }
     ensures out { guest.new.guest.out ≡ guest.old.guest.out }
     ensures claim { IfSome result (λ i. (i < 256) × (guest.new.guest.claim ≡ Place 0 i)) }

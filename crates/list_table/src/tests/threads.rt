@@ -1,6 +1,6 @@
 //! Two filers in two threads.
 ghost use Rattle.std.specs.Prelude.{◌≡◌, ◌<◌, true};
-ghost use Rattle.list_machine.specs.Grants.{granted_in as left_in};
+ghost use Rattle.list_machine.specs.Grants.{granted_in};
 ghost use Rattle.list_machine.specs.declared.views.LinkWord.TheVariants.{OfList};
 ghost use Rattle.list_machine.specs.declared.views.Unfiled.TheVariants.{Nothing};
 ghost use Rattle.list_table.specs.Ledgers.{opening_ledger};
@@ -21,7 +21,7 @@ fn claim_and_file(lists: &SharedLists, mut guest: GuestSeat, item: u32) -> (Answ
     requires name { guest.name ≡ lists.now.name }
     requires list { 0 < lists.now.lists }
     requires idle { guest.guest.claim ≡ Nothing }
-    requires granted { 0 < left_in 0 guest.guest.grants }
+    requires granted { 0 < granted_in 0 guest.guest.grants }
     ensures name { result.1.name ≡ guest.name }
     ensures out { result.1.guest.out ≡ guest.guest.out }
 {
@@ -42,7 +42,7 @@ fn admit_two(lists: &SharedLists, owner: &mut OwnerSeat) -> (GuestSeat, GuestSea
     ensures names { (result.0.name ≡ owner.old.name) × (result.1.name ≡ owner.old.name) }
     ensures out { (result.0.guest.out ≡ true) × (result.1.guest.out ≡ true) }
     ensures idle { (result.0.guest.claim ≡ Nothing) × (result.1.guest.claim ≡ Nothing) }
-    ensures granted { (left_in 0 result.0.guest.grants ≡ 1) × (left_in 0 result.1.guest.grants ≡ 1) }
+    ensures granted { (granted_in 0 result.0.guest.grants ≡ 1) × (granted_in 0 result.1.guest.grants ≡ 1) }
 {
     let first = admit_filer(lists, owner);
     let second = lists.admit(owner, &ONE_PLACE);
@@ -59,18 +59,18 @@ fn file_at_once<R: Threads + Wait + Sync>(
     requires names { (first.name ≡ lists.now.name) × (second.name ≡ lists.now.name) }
     requires list { 0 < lists.now.lists }
     requires idle { (first.guest.claim ≡ Nothing) × (second.guest.claim ≡ Nothing) }
-    requires granted { (0 < left_in 0 first.guest.grants) × (0 < left_in 0 second.guest.grants) }
+    requires granted { (0 < granted_in 0 first.guest.grants) × (0 < granted_in 0 second.guest.grants) }
     ensures names { (result.0.1.name ≡ first.name) × (result.1.1.name ≡ second.name) }
     ensures out { (result.0.1.guest.out ≡ first.guest.out) × (result.1.1.guest.out ≡ second.guest.out) }
 {
     thread::join(
         rt,
         move ||
-            requires { (first.name ≡ lists.now.name) × (0 < lists.now.lists) × (first.guest.claim ≡ Nothing) × (0 < left_in 0 first.guest.grants) }
+            requires { (first.name ≡ lists.now.name) × (0 < lists.now.lists) × (first.guest.claim ≡ Nothing) × (0 < granted_in 0 first.guest.grants) }
             ensures { (result.1.name ≡ first.name) × (result.1.guest.out ≡ first.guest.out) }
         { claim_and_file(lists, first, 7) },
         move ||
-            requires { (second.name ≡ lists.now.name) × (0 < lists.now.lists) × (second.guest.claim ≡ Nothing) × (0 < left_in 0 second.guest.grants) }
+            requires { (second.name ≡ lists.now.name) × (0 < lists.now.lists) × (second.guest.claim ≡ Nothing) × (0 < granted_in 0 second.guest.grants) }
             ensures { (result.1.name ≡ second.name) × (result.1.guest.out ≡ second.guest.out) }
         { claim_and_file(lists, second, 8) },
     )

@@ -17,5 +17,6 @@ pub fn outline_is_in_path_order(cube: &Cube, points: &[Point], leaf: u32)
 /// A law: the items that a camera sees of an octree are those of the nodes of its cut, one node after the
 /// other, each made of the points in the node's cube.
 pub fn cut_has_the_items(camera: &Camera, cube: &Cube, points: &[Point], leaf: u32)
-    ensures { items camera.now (octree leaf cube.now points.now) cube.now ≡ flat_map (shown_by points.now) (cut camera.now (outline (octree leaf cube.now points.now) cube.now)) }
+    ensures { items camera.now (octree leaf cube.now points.now) cube.now
+        ≡ flat_map (shown_by points.now) (cut camera.now (outline (octree leaf cube.now points.now) cube.now)) }
 {}

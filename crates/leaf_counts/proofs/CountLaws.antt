@@ -1,9 +1,9 @@
 -- The counts of an octree, one level after the other.
-use Rattle.std.proofs.Common.{◌≡◌, ◌⊎◌, ℕ, zero, suc, ◌-◌, ◌<◌, ◌≤◌, inl, inr, true, false, ◌&&◌, cond, List, [], ◌∷◌, ◌++◌, map, length, nat_le, nat_eq, ap, ◌∙◌, sym, refl, arith}
+use Rattle.std.proofs.Common.{◌≡◌, ◌⊎◌, ℕ, zero, suc, ◌-◌, ◌<◌, ◌≤◌, inl, inr, cond, List, [], ◌∷◌, ◌++◌, map, length, nat_le, ap, ◌∙◌, sym, refl, arith}
 use Rattle.std.proofs.lemmas.Bool.{cases_lt, le-leb, lt-leb}
 use Rattle.std.proofs.lemmas.List.{map-append}
 use Rattle.cube_math.specs.Points.{PointValue}
-use Rattle.cube_math.specs.Cubes.{CubeValue, contains, child, octant}
+use Rattle.cube_math.specs.Cubes.{CubeValue, child}
 use Rattle.octree_model.specs.Numbers.{up_to}
 use Rattle.octree_model.specs.Octree.{inside, octree_at, octree}
 pub use Rattle.octree_model.proofs.OctreeLaws.{child_inside, same_below}

@@ -159,8 +159,9 @@ abbrev pub children_after : ℕ → CubeValue → List PointValue → List Count
 children_after leaf cube points = map (λ g. counts_of leaf (child cube g) points) (up_to 8)
 
 -- the children below g are done
-pub record IsHalfGrown (points batch : List PointValue) (leaf : ℕ) (path : List ℕ) (cube : CubeValue) (t : Counts) (ts : List Counts) (spills : List Spill) (old now : Progress) (growths : List Growth) (g : ℕ) : Type 0 where
+pub record IsHalfGrown (points batch : List PointValue) (leaf : ℕ) (path : List ℕ) (cube : CubeValue) (t : Counts) (ts : List Counts) (spills : List Spill) (old now : Progress) (growths : List Growth) (places : List Counts) (g : ℕ) : Type 0 where
   pub long : length growths ≡ g
+  pub room : length places ≡ g
   pub rest : List (List ℕ)
   pub next : map (λ spill. spill.path) (drop now.used spills) ≡ map (λ steps. path ++ steps) (picked (is_overfull leaf cube t batch) leaf_paths g (drop g ts)) ++ rest
   pub used : now.used + length (picked (is_overfull leaf cube t batch) leaf_paths g (drop g ts)) ≡ old.used + length (overfull leaf cube t batch)
@@ -168,7 +169,7 @@ pub record IsHalfGrown (points batch : List PointValue) (leaf : ℕ) (path : Lis
       ≡ old.splits.items ++ map (λ steps. path ++ steps) (new_inner t (counted (octree leaf cube (points ++ batch))))
   pub leaves : now.leaves.items ++ map (λ steps. path ++ steps) (picked (λ steps. not (is_leaf_at t steps)) leaf_paths g (drop g (children_after leaf cube (points ++ batch))))
       ≡ old.leaves.items ++ map (λ steps. path ++ steps) (new_leaves t (counted (octree leaf cube (points ++ batch))))
-  pub each : grown_each (map grown growths) (take g ts) ≡ map (λ k. counts_of leaf (child cube k) (points ++ batch)) (up_to g)
+  pub each : grown_each (map grown growths) (take g ts) places ≡ map (λ k. counts_of leaf (child cube k) (points ++ batch)) (up_to g)
 
 inner_before : (root : CubeValue) (points batch : List PointValue) (leaf : ℕ) (path : List ℕ) (cube : CubeValue) (t : Counts) (part : List PointValue) (spills : List Spill) (used n : ℕ) (ts : List Counts)
     → IsGrowing root points batch leaf path cube t part spills used → t ≡ Inner n ts → IsInnerOf leaf cube points n ts
@@ -181,26 +182,27 @@ inner_after root points batch leaf path cube t part spills used n ts growing is 
     let all : length (inside cube (points ++ batch)) ≡ n + length part = so_many_both cube points batch part growing.within ∙ ap (λ k. k + length part) (sym before.count) in
     counted_is leaf cube (points ++ batch) ∙ is_inner leaf cube (points ++ batch) (omega (arith, before.more, before.count)) before.splits ∙ ap (λ k. Inner k (children_after leaf cube (points ++ batch))) all
 
-pub half_begins : (root : CubeValue) (points batch : List PointValue) (leaf : ℕ) (path : List ℕ) (cube : CubeValue) (t : Counts) (part : List PointValue) (spills : List Spill) (p : Progress) (n : ℕ) (ts : List Counts) (growths : List Growth)
-    → IsGrowing root points batch leaf path cube t part spills p.used → t ≡ Inner n ts → growths ≡ [] → IsHalfGrown points batch leaf path cube t ts spills p p growths 0
-half_begins root points batch leaf path cube t part spills p n ts growths growing is none =
+pub half_begins : (root : CubeValue) (points batch : List PointValue) (leaf : ℕ) (path : List ℕ) (cube : CubeValue) (t : Counts) (part : List PointValue) (spills : List Spill) (p : Progress) (n : ℕ) (ts : List Counts) (growths : List Growth) (places : List Counts)
+    → IsGrowing root points batch leaf path cube t part spills p.used → t ≡ Inner n ts → growths ≡ [] → places ≡ [] → IsHalfGrown points batch leaf path cube t ts spills p p growths places 0
+half_begins root points batch leaf path cube t part spills p n ts growths places growing is none free =
     let inner : counted (octree leaf cube (points ++ batch)) ≡ Inner (n + length part) (children_after leaf cube (points ++ batch)) = inner_after root points batch leaf path cube t part spills p.used n ts growing is in
     record {
       long = ap length none;
+      room = ap length free;
       rest = growing.rest;
       next = growing.next ∙ ap (λ (l : List (List ℕ)). map (λ steps. path ++ steps) l ++ growing.rest) (overfull-Inner leaf cube t n ts batch is);
       used = ap (λ (l : List (List ℕ)). p.used + length l) (sym (overfull-Inner leaf cube t n ts batch is));
       splits = ap (λ (l : List (List ℕ)). p.splits.items ++ map (λ steps. path ++ steps) l) (sym (new_inner-Inner t _ n _ ts _ is inner));
       leaves = ap (λ (l : List (List ℕ)). p.leaves.items ++ map (λ steps. path ++ steps) l) (sym (new_leaves-Inner t _ _ _ inner));
-      each = ap (λ (gs : List Growth). grown_each (map grown gs) []) none;
+      each = λ i. grown_each (map grown (none i)) [] (free i);
     }
 
 -- the child g meets the points and the batch as the node does
-pub child_growing : (root : CubeValue) (points batch : List PointValue) (leaf : ℕ) (path path' : List ℕ) (cube cube' : CubeValue) (t : Counts) (part part' : List PointValue) (spills : List Spill) (old now : Progress) (n : ℕ) (ts : List Counts) (growths : List Growth) (g : ℕ) (u : Counts)
-    → IsGrowing root points batch leaf path cube t part spills old.used → t ≡ Inner n ts → IsHalfGrown points batch leaf path cube t ts spills old now growths g
+pub child_growing : (root : CubeValue) (points batch : List PointValue) (leaf : ℕ) (path path' : List ℕ) (cube cube' : CubeValue) (t : Counts) (part part' : List PointValue) (spills : List Spill) (old now : Progress) (n : ℕ) (ts : List Counts) (growths : List Growth) (places : List Counts) (g : ℕ) (u : Counts)
+    → IsGrowing root points batch leaf path cube t part spills old.used → t ≡ Inner n ts → IsHalfGrown points batch leaf path cube t ts spills old now growths places g
     → slice_get ts g ≡ Some u → path' ≡ path ++ g ∷ [] → cube' ≡ child cube g → part' ≡ inside (child cube g) part
     → IsGrowing root points batch leaf path' cube' u part' spills now.used
-child_growing root points batch leaf path path' cube cube' t part part' spills old now n ts growths g u growing is half at longer smaller within =
+child_growing root points batch leaf path path' cube cube' t part part' spills old now n ts growths places g u growing is half at longer smaller within =
     let before : IsInnerOf leaf cube points n ts = inner_before root points batch leaf path cube t part spills old.used n ts growing is in
     let low : g < 8 = omega (arith, slice_get_within ts g u at, ap length before.below, eight_children leaf cube points) in
     let here : filter (λ steps. is_overfull leaf cube t batch (g ∷ steps)) (leaf_paths u) ≡ overfull leaf cube' u batch =
@@ -217,17 +219,20 @@ child_growing root points batch leaf path path' cube cube' t part part' spills o
     }
 
 -- one change more
-each_more : (fs : List (Counts → Counts)) (ts : List Counts) (f : Counts → Counts) (t : Counts) → length fs ≡ length ts → grown_each (fs ++ f ∷ []) (ts ++ t ∷ []) ≡ grown_each fs ts ++ f t ∷ []
-each_more [] [] f t e = refl
-each_more [] (u ∷ us) f t e = absurd (omega arith)
-each_more (h ∷ hs) [] f t e = absurd (omega arith)
-each_more (h ∷ hs) (u ∷ us) f t e = ap (λ (l : List Counts). h u ∷ l) (each_more hs us f t (omega arith))
+each_more : (fs : List (Counts → Counts)) (ts places : List Counts) (f : Counts → Counts) (t place : Counts) → length fs ≡ length ts → length places ≡ length ts
+    → grown_each (fs ++ f ∷ []) (ts ++ t ∷ []) (places ++ place ∷ []) ≡ grown_each fs ts places ++ f t ∷ []
+each_more [] [] [] f t place e k = refl
+each_more [] [] (p ∷ ps) f t place e k = absurd (omega arith)
+each_more [] (u ∷ us) places f t place e k = absurd (omega arith)
+each_more (h ∷ hs) [] places f t place e k = absurd (omega arith)
+each_more (h ∷ hs) (u ∷ us) [] f t place e k = absurd (omega arith)
+each_more (h ∷ hs) (u ∷ us) (p ∷ ps) f t place e k = ap (λ (l : List Counts). h u ∷ l) (each_more hs us ps f t place (omega arith) (omega arith))
 
-pub half_goes_on : (root : CubeValue) (points batch : List PointValue) (leaf : ℕ) (path path' : List ℕ) (cube cube' : CubeValue) (t : Counts) (part : List PointValue) (spills : List Spill) (old now new : Progress) (n : ℕ) (ts : List Counts) (growths growths' : List Growth) (g : ℕ) (u : Counts) (growth : Growth)
-    → IsGrowing root points batch leaf path cube t part spills old.used → t ≡ Inner n ts → IsHalfGrown points batch leaf path cube t ts spills old now growths g
-    → slice_get ts g ≡ Some u → path' ≡ path ++ g ∷ [] → cube' ≡ child cube g → IsGrown points batch leaf path' cube' u now new growth → growths' ≡ growths ++ growth ∷ []
-    → IsHalfGrown points batch leaf path cube t ts spills old new growths' (g + 1)
-half_goes_on root points batch leaf path path' cube cube' t part spills old now new n ts growths growths' g u growth growing is half at longer smaller done pushed =
+pub half_goes_on : (root : CubeValue) (points batch : List PointValue) (leaf : ℕ) (path path' : List ℕ) (cube cube' : CubeValue) (t : Counts) (part : List PointValue) (spills : List Spill) (old now new : Progress) (n : ℕ) (ts : List Counts) (growths growths' : List Growth) (places places' : List Counts) (g : ℕ) (u : Counts) (growth : Growth) (place : Counts)
+    → IsGrowing root points batch leaf path cube t part spills old.used → t ≡ Inner n ts → IsHalfGrown points batch leaf path cube t ts spills old now growths places g
+    → slice_get ts g ≡ Some u → path' ≡ path ++ g ∷ [] → cube' ≡ child cube g → IsGrown points batch leaf path' cube' u now new growth → growths' ≡ growths ++ growth ∷ [] → places' ≡ places ++ place ∷ []
+    → IsHalfGrown points batch leaf path cube t ts spills old new growths' places' (g + 1)
+half_goes_on root points batch leaf path path' cube cube' t part spills old now new n ts growths growths' places places' g u growth place growing is half at longer smaller done pushed kept =
     let before : IsInnerOf leaf cube points n ts = inner_before root points batch leaf path cube t part spills old.used n ts growing is in
     let there : g < length ts = slice_get_within ts g u at in
     let low : g < 8 = omega (arith, there, ap length before.below, eight_children leaf cube points) in
@@ -251,6 +256,7 @@ half_goes_on root points batch leaf path path' cube cube' t part spills old now 
     ∙ drop-append_seam (map (λ steps. path' ++ steps) named) _ in
     record {
       long = ap length pushed ∙ length-append growths (growth ∷ []) ∙ ap (λ k. k + 1) half.long;
+      room = ap length kept ∙ length-append places (place ∷ []) ∙ ap (λ k. k + 1) half.room;
       rest = half.rest;
       next = left;
       used = omega (arith, half.used, done.used, lengths);
@@ -259,27 +265,27 @@ half_goes_on root points batch leaf path path' cube cube' t part spills old now 
       leaves = named_on (λ steps. not (is_leaf_at t steps)) leaf_paths path path' g us v (new_leaves u v) now.leaves.items new.leaves.items _ at_after (new_leaves_child t n g ts u v is at) longer
           (done.leaves ∙ ap (λ (w : Counts). now.leaves.items ++ map (λ steps. path' ++ steps) (new_leaves u w)) child_is) half.leaves;
       each = one_more (λ k. counts_of leaf (child cube k) (points ++ batch)) g _ _ (grown growth u) half.each
-          ((λ i. grown_each (map grown (pushed i)) ((take_more ts g u there ∙ ap (λ (x : Counts). take g ts ++ x ∷ []) (get_or_from_slice_get ts g u u at)) i))
-          ∙ ap (λ (fs : List (Counts → Counts)). grown_each fs (take g ts ++ u ∷ [])) (map-append grown growths (growth ∷ []))
-          ∙ each_more (map grown growths) (take g ts) (grown growth) u (length-map growths grown ∙ half.long ∙ sym (length-take-le g ts (omega arith))))
+          ((λ i. grown_each (map grown (pushed i)) ((take_more ts g u there ∙ ap (λ (x : Counts). take g ts ++ x ∷ []) (get_or_from_slice_get ts g u u at)) i) (kept i))
+          ∙ ap (λ (fs : List (Counts → Counts)). grown_each fs (take g ts ++ u ∷ []) (places ++ place ∷ [])) (map-append grown growths (growth ∷ []))
+          ∙ each_more (map grown growths) (take g ts) places (grown growth) u place (length-map growths grown ∙ half.long ∙ sym (length-take-le g ts (omega arith))) (half.room ∙ sym (length-take-le g ts (omega arith))))
           (done.after ∙ child_is);
     }
 
 -- all children are done
-pub grown_whole : (root : CubeValue) (points batch : List PointValue) (leaf : ℕ) (path : List ℕ) (cube : CubeValue) (t : Counts) (part : List PointValue) (spills : List Spill) (old now : Progress) (n m : ℕ) (ts : List Counts) (growths growths' : List Growth) (g : ℕ)
-    → IsGrowing root points batch leaf path cube t part spills old.used → t ≡ Inner n ts → IsHalfGrown points batch leaf path cube t ts spills old now growths g → length ts ≤ g → g ≤ 8 → m ≡ n + length part → growths' ≡ growths
-    → IsGrown points batch leaf path cube t old now (Each m growths')
-grown_whole root points batch leaf path cube t part spills old now n m ts growths growths' g growing is half end most count same =
+pub grown_whole : (root : CubeValue) (points batch : List PointValue) (leaf : ℕ) (path : List ℕ) (cube : CubeValue) (t : Counts) (part : List PointValue) (spills : List Spill) (old now : Progress) (n m : ℕ) (ts : List Counts) (growths growths' : List Growth) (places places' : List Counts) (g : ℕ)
+    → IsGrowing root points batch leaf path cube t part spills old.used → t ≡ Inner n ts → IsHalfGrown points batch leaf path cube t ts spills old now growths places g → length ts ≤ g → g ≤ 8 → m ≡ n + length part → growths' ≡ growths → places' ≡ places
+    → IsGrown points batch leaf path cube t old now (Each m growths' places')
+grown_whole root points batch leaf path cube t part spills old now n m ts growths growths' places places' g growing is half end most count same kept =
     let before : IsInnerOf leaf cube points n ts = inner_before root points batch leaf path cube t part spills old.used n ts growing is in
     let inner : counted (octree leaf cube (points ++ batch)) ≡ Inner (n + length part) (children_after leaf cube (points ++ batch)) = inner_after root points batch leaf path cube t part spills old.used n ts growing is in
     let eight : length ts ≡ 8 = ap length before.below ∙ eight_children leaf cube points in
     let last : g ≡ 8 = omega (arith, eight, end, most) in
     let us : List Counts = children_after leaf cube (points ++ batch) in
     let past : length us ≤ g = omega (arith, eight_children leaf cube (points ++ batch), last) in
-    let made : grown_each (map grown growths) ts ≡ us =
-    ap (grown_each (map grown growths)) (sym (take_all g ts end)) ∙ half.each ∙ ap (λ k. map (λ k. counts_of leaf (child cube k) (points ++ batch)) (up_to k)) last in
+    let made : grown_each (map grown growths) ts places ≡ us =
+    ap (λ (l : List Counts). grown_each (map grown growths) l places) (sym (take_all g ts end)) ∙ half.each ∙ ap (λ k. map (λ k. counts_of leaf (child cube k) (points ++ batch)) (up_to k)) last in
     record {
-      after = ap (grown (Each m growths')) is ∙ grown-inner m n growths' ts ∙ (λ i. Inner (count i) (grown_each (map grown (same i)) ts)) ∙ ap (Inner (n + length part)) made ∙ sym inner;
+      after = ap (grown (Each m growths' places')) is ∙ grown-inner m n growths' ts places' ∙ (λ i. Inner (count i) (grown_each (map grown (same i)) ts (kept i))) ∙ ap (Inner (n + length part)) made ∙ sym inner;
       used = omega (arith, half.used, ap length (last_picked (is_overfull leaf cube t batch) leaf_paths g ts end));
       splits = sym (append-nil now.splits.items) ∙ ap (λ (l : List (List ℕ)). now.splits.items ++ map (λ steps. path ++ steps) l) (sym (last_picked (λ steps. not (is_inner_at t steps)) inner_paths g us past)) ∙ half.splits;
       leaves = sym (append-nil now.leaves.items) ∙ ap (λ (l : List (List ℕ)). now.leaves.items ++ map (λ steps. path ++ steps) l) (sym (last_picked (λ steps. not (is_leaf_at t steps)) leaf_paths g us past)) ∙ half.leaves;

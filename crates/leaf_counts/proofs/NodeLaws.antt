@@ -1,6 +1,6 @@
 -- What a leaf and an inner node are, and the nodes below them.
 pub use Rattle.cube_math.proofs.Ways.{next_of}
-use Rattle.std.proofs.Common.{◌≡◌, ℕ, ◌+◌, slice_get, drop, Some, ◌∷◌, List, map, sum, ap, ◌∙◌, sym}
+use Rattle.std.proofs.Common.{◌≡◌, ℕ, ◌+◌, List, map, sum, ap, ◌∙◌, sym}
 use Rattle.leaf_counts.specs.declared.counts.Counts.{Counts, out-Counts, out-roll-Counts}
 use Rattle.leaf_counts.specs.declared.counts.Counts.TheOpen.{Counts-F}
 use Rattle.leaf_counts.specs.declared.counts.Counts.TheFolds.{fold-roll-Counts}

@@ -55,20 +55,20 @@ need_fits s points batch fits few =
     }
 
 -- the skeleton as it will be
-pub planned_is : (s : SkeletonValue) (points batch : List PointValue) (old new : Progress) (growth : Growth) (plan : PlanValue) → IsGrown points batch s.leaf [] s.cube s.counts old new growth → plan.counts ≡ grown growth s.counts → planned s plan ≡ skeleton_of s.leaf s.cube (points ++ batch)
-planned_is s points batch old new growth plan grows made = ap (λ (t : Counts). record s { counts = t }) (made ∙ grows.after)
+pub planned_is : (s : SkeletonValue) (points batch : List PointValue) (old new : Progress) (growth : Growth) (plan : PlanValue) → IsGrown points batch s.leaf [] s.cube s.counts old new growth → plan.growth ≡ growth → planned s plan ≡ skeleton_of s.leaf s.cube (points ++ batch)
+planned_is s points batch old new growth plan grows made = ap (λ (t : Counts). record s { counts = t }) (ap (λ (g : Growth). grown g s.counts) made ∙ grows.after)
 
-pub is_plan : (s : SkeletonValue) (points batch : List PointValue) (old new : Progress) (growth : Growth) (plan : PlanValue) → s ≡ skeleton_of s.leaf s.cube points → length points + length batch < 2 ^ 32 → IsGrown points batch s.leaf [] s.cube s.counts old new growth → plan.counts ≡ grown growth s.counts → old.splits.items ≡ []
+pub is_plan : (s : SkeletonValue) (points batch : List PointValue) (old new : Progress) (growth : Growth) (plan : PlanValue) → s ≡ skeleton_of s.leaf s.cube points → length points + length batch < 2 ^ 32 → IsGrown points batch s.leaf [] s.cube s.counts old new growth → plan.growth ≡ growth → old.splits.items ≡ []
     → plan.nodes ≡ node_total s.counts + 8 * length new.splits.items → IsPlanOf s plan
 is_plan s points batch old new growth plan is few grows made none need = record {
   points = points ++ batch;
   few = omega (arith, length-append points batch);
   is = planned_is s points batch old new growth plan grows made;
-  total = need ∙ need_is s points batch old new growth is grows none ∙ sym (total_at s.leaf (s.cube.bits - 7) s.cube (points ++ batch)) ∙ ap node_total (sym (made ∙ grows.after));
+  total = need ∙ need_is s points batch old new growth is grows none ∙ sym (total_at s.leaf (s.cube.bits - 7) s.cube (points ++ batch)) ∙ ap node_total (sym (ap (λ (g : Growth). grown g s.counts) made ∙ grows.after));
 }
 
-pub new_inner_is : (s : SkeletonValue) (points batch : List PointValue) (old new : Progress) (growth : Growth) (plan : PlanValue) → IsGrown points batch s.leaf [] s.cube s.counts old new growth → plan.counts ≡ grown growth s.counts → old.splits.items ≡ [] → new.splits.items ≡ new_inner s.counts (planned s plan).counts
-new_inner_is s points batch old new growth plan grows made none = named_from_root [] old.splits.items new.splits.items _ _ grows.splits none refl (ap (new_inner s.counts) (sym (made ∙ grows.after)))
+pub new_inner_is : (s : SkeletonValue) (points batch : List PointValue) (old new : Progress) (growth : Growth) (plan : PlanValue) → IsGrown points batch s.leaf [] s.cube s.counts old new growth → plan.growth ≡ growth → old.splits.items ≡ [] → new.splits.items ≡ new_inner s.counts (planned s plan).counts
+new_inner_is s points batch old new growth plan grows made none = named_from_root [] old.splits.items new.splits.items _ _ grows.splits none refl (ap (new_inner s.counts) (sym (ap (λ (g : Growth). grown g s.counts) made ∙ grows.after)))
 
-pub new_leaves_are : (s : SkeletonValue) (points batch : List PointValue) (old new : Progress) (growth : Growth) (plan : PlanValue) → IsGrown points batch s.leaf [] s.cube s.counts old new growth → plan.counts ≡ grown growth s.counts → old.leaves.items ≡ [] → new.leaves.items ≡ new_leaves s.counts (planned s plan).counts
-new_leaves_are s points batch old new growth plan grows made none = named_from_root [] old.leaves.items new.leaves.items _ _ grows.leaves none refl (ap (new_leaves s.counts) (sym (made ∙ grows.after)))
+pub new_leaves_are : (s : SkeletonValue) (points batch : List PointValue) (old new : Progress) (growth : Growth) (plan : PlanValue) → IsGrown points batch s.leaf [] s.cube s.counts old new growth → plan.growth ≡ growth → old.leaves.items ≡ [] → new.leaves.items ≡ new_leaves s.counts (planned s plan).counts
+new_leaves_are s points batch old new growth plan grows made none = named_from_root [] old.leaves.items new.leaves.items _ _ grows.leaves none refl (ap (new_leaves s.counts) (sym (ap (λ (g : Growth). grown g s.counts) made ∙ grows.after)))

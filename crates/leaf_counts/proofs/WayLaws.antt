@@ -1,5 +1,5 @@
 -- The way down from a node.
-use Rattle.std.proofs.Common.{◌≡◌, ℕ, ◌+◌, ◌<◌, List, [], ◌∷◌, ◌++◌, length, drop, get_or, Some, None, Option, ap, ◌∙◌, sym, inl, inr, ◌⊎◌, slice_get, refl, IsTrue, append_assoc}
+use Rattle.std.proofs.Common.{◌≡◌, ℕ, ◌+◌, ◌<◌, ◌≤◌, arith, map, List, [], ◌∷◌, ◌++◌, length, drop, get_or, Some, None, Option, ap, ◌∙◌, sym, inl, inr, ◌⊎◌, slice_get, refl, IsTrue, append_assoc}
 use Rattle.std.specs.Prelude.{option_and_then, option_map}
 use Rattle.std.proofs.lemmas.List.{length-map, drop_more, append-nil}
 use Rattle.std.proofs.lemmas.Bool.{and_from, eq-eqb}
@@ -10,9 +10,12 @@ use Rattle.cube_math.proofs.Halves.{child_has}
 use Rattle.octree_model.specs.Numbers.{up_to}
 use Rattle.octree_model.proofs.NumberLaws.{at_up_to, length-up_to}
 use Rattle.leaf_counts.specs.declared.counts.Counts.{Counts, Leaf, Inner}
+use Rattle.leaf_counts.specs.declared.growth.Growth.{Growth, Each}
 use Rattle.leaf_counts.specs.Descent.{IsCountedIn, IsLeafBelow}
+use Rattle.leaf_counts.specs.Growths.{grown, grown_each}
 use Rattle.leaf_counts.specs.Nodes.{NodeValue, NodesAt, node_at, count_at, is_leaf, is_leaf_at, cube_at}
 use Rattle.leaf_counts.proofs.CountLaws.{counts_of, counted_is, IsInnerOf, inner_of}
+use Rattle.leaf_counts.proofs.GrowthLaws.{grown_node, few_grown, grown_at, place_at}
 use Rattle.leaf_counts.proofs.NodeLaws.{node_at-Leaf, node_at-Inner, next_of}
 
 -- what the way down needs at an inner node
@@ -88,3 +91,26 @@ leaf_of_child t n g ts path path' cube cube' p u found is low at further smaller
 -- the point lies in the child of its octant
 pub in_its_child : (c c' : CubeValue) (p : PointValue) (g : ℕ) → 0 < c.bits → g < 8 → IsTrue (contains c p) → g ≡ octant c p → c' ≡ child c g → IsTrue (contains c' p)
 in_its_child c c' p g s l has o is = ap (λ (k : CubeValue). contains k p) is ∙ child_has c p g s l ∙ and_from _ _ has (eq-eqb _ _ (sym o))
+
+-- ---- a node that changed
+-- what the way down needs at an inner node once it has changed
+pub record IsGrownIn (cube : CubeValue) (t : Counts) (gs : List Growth) (ts places : List Counts) : Type 0 where
+  pub count : ℕ
+  pub is : t ≡ Inner count (grown_each (map grown gs) ts places)
+  pub inner : IsInnerIn cube (grown_each (map grown gs) ts places)
+  pub room : 8 ≤ length places
+
+pub grown_in : (cube : CubeValue) (growth : Growth) (t : Counts) (n m : ℕ) (gs : List Growth) (ts places : List Counts) → IsCountedIn cube (grown growth t) → growth ≡ Each n gs places → t ≡ Inner m ts → IsGrownIn cube (grown growth t) gs ts places
+grown_in cube growth t n m gs ts places counted change is =
+    let node : grown growth t ≡ Inner n (grown_each (map grown gs) ts places) = grown_node growth t n m gs ts places change is in
+    let inner : IsInnerIn cube (grown_each (map grown gs) ts places) = inner_in cube (grown growth t) n (grown_each (map grown gs) ts places) counted node in
+    record { count = n; is = node; inner = inner; room = omega (arith, inner.eight, few_grown (map grown gs) ts places) }
+
+-- a child that changed, and one that stands in its place
+pub grown_child : (cube : CubeValue) (t : Counts) (gs : List Growth) (ts places : List Counts) (g : ℕ) (growth : Growth) (u : Counts) → IsGrownIn cube t gs ts places → g < 8 → slice_get gs g ≡ Some growth → slice_get ts g ≡ Some u
+    → grown growth u ≡ get_or (grown_each (map grown gs) ts places) g (grown growth u)
+grown_child cube t gs ts places g growth u node low change here = sym (grown_at gs ts places g growth u (grown growth u) change here (omega (arith, node.inner.eight)))
+
+pub placed_child : (cube : CubeValue) (t : Counts) (gs : List Growth) (ts places : List Counts) (g : ℕ) (u : Counts) → IsGrownIn cube t gs ts places → g < 8 → (slice_get gs g ≡ None) ⊎ (slice_get ts g ≡ None) → u ≡ get_or places g u
+    → u ≡ get_or (grown_each (map grown gs) ts places) g u
+placed_child cube t gs ts places g u node low none here = here ∙ sym (place_at gs ts places g u none (omega (arith, node.inner.eight)))

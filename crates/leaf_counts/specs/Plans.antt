@@ -4,17 +4,19 @@ use Rattle.cube_math.specs.Points.{PointValue}
 use Rattle.octree_model.specs.Bags.{IsSameBag}
 use Rattle.octree_model.specs.Octree.{inside}
 use Rattle.leaf_counts.specs.declared.counts.Counts.{Counts}
+use Rattle.leaf_counts.specs.declared.growth.Growth.{Growth}
 use Rattle.leaf_counts.specs.declared.plan.PlanRefusal.{PlanRefusal}
 use Rattle.leaf_counts.specs.declared.plan.PlanRefusal.TheVariants.{NodesFull, Memory}
 use Rattle.leaf_counts.specs.declared.plan.Spill.{Spill}
+use Rattle.leaf_counts.specs.Growths.{grown}
 use Rattle.leaf_counts.specs.Nodes.{is_inner_at, is_leaf_at, cube_at, node_total}
 use Rattle.leaf_counts.specs.Overfull.{overfull}
 use Rattle.leaf_counts.specs.Paths.{inner_paths, leaf_paths}
 use Rattle.leaf_counts.specs.Skeletons.{SkeletonValue, skeleton_of}
 
--- a plan as contracts see it: the counts after it, the number of nodes, and the paths of the new inner nodes and of the new leaves
+-- a plan as contracts see it: how the counts change, the number of nodes then, and the paths of the new inner nodes and of the new leaves
 pub record PlanValue : Type 0 where
-  pub counts : Counts
+  pub growth : Growth
   pub nodes : ℕ
   pub splits : List (List ℕ)
   pub leaves : List (List ℕ)
@@ -29,14 +31,14 @@ new_leaves before after = filter (λ path. not (is_leaf_at before path)) (leaf_p
 
 -- a skeleton as a plan will have it
 abbrev pub planned : SkeletonValue → PlanValue → SkeletonValue
-planned skeleton plan = record skeleton { counts = plan.counts }
+planned skeleton plan = record skeleton { counts = grown plan.growth skeleton.counts }
 
 -- the plan is of this skeleton: it will be the skeleton of some list of fewer than 2 ^ 32 points, with so many nodes
 pub record IsPlanOf (skeleton : SkeletonValue) (plan : PlanValue) : Type 0 where
   pub points : List PointValue
   pub few : length points < 2 ^ 32
   pub is : planned skeleton plan ≡ skeleton_of skeleton.leaf skeleton.cube points
-  pub total : plan.nodes ≡ node_total plan.counts
+  pub total : plan.nodes ≡ node_total (planned skeleton plan).counts
 
 -- these are all points of a skeleton, and with the batch's fewer than 2 ^ 32; and the spills are the leaves that the batch
 -- makes over-full, in path order, each with the leaf's points in some order

@@ -47,6 +47,7 @@ pub(crate) fn grow(
         Counts::Inner(count, children) => {
             let lists = spread(alloc, &cube, points)?;
             let mut growths = Vec::with_capacity(alloc, 8)?;
+            let mut places = Vec::with_capacity(alloc, 8)?;
             for (g, below) in children.as_slice().iter().enumerate() {
                 let octant = g as u8;
                 growths.push(grow(
@@ -59,8 +60,13 @@ pub(crate) fn grow(
                     leaf,
                     lists[g].as_slice(),
                 )?)?;
+                places.push(Counts::Leaf(0))?;
             }
-            Ok(Growth::Each(count + points.len() as u32, Items::from_vec(growths)))
+            Ok(Growth::Each(
+                count + points.len() as u32,
+                Items::from_vec(growths),
+                Items::from_vec(places),
+            ))
         }
     }
 }

@@ -1,9 +1,8 @@
-ghost use Rattle.std.specs.Prelude.{◌≡◌, IfOk};
+ghost use Rattle.std.specs.Prelude.{◌≡◌};
 ghost use Rattle.leaf_counts.specs.Growths.{grown};
 
 use crate::counts::Counts;
 use sqlite_items::Items;
-use std::alloc::{AllocError, Global};
 
 /// How the counts of a node and of those below it change.
 #[cycle(growth)]
@@ -13,45 +12,29 @@ pub enum Growth {
     Same,
     /// These come in their place.
     New(Counts),
-    /// The node, which is inner, gets this count, and its children change like this.
-    Each(u32, Items<Growth>),
+    /// The node, which is inner, gets this count, and its children change like this. For each child a
+    /// place is kept, which the child takes once it has changed, so that no memory is wanted then.
+    Each(u32, Items<Growth>, Items<Counts>),
 }
 
-/// The counts after the change, made anew.
-pub(crate) fn grown(alloc: Global, counts: &Counts, growth: &Growth) -> Result<Counts, AllocError>
-    ensures { IfOk result (λ after. after ≡ grown growth.now counts.now) }
+/// The counts after the change. It goes down to changed nodes alone, moves what stays as it is, and takes no
+/// memory.
+pub(crate) fn grown(counts: Counts, growth: Growth) -> Counts
+    ensures { result ≡ grown growth counts }
 {
     match growth {
-        Growth::Same => copy(alloc, counts),
-        Growth::New(new) => copy(alloc, new),
-        Growth::Each(count, growths) => match counts {
-            Counts::Leaf(old) => Ok(Counts::Leaf(*old)),
-            Counts::Inner(_, children) => {
-                let mut after = Vec::with_capacity(alloc, children.len())?;
-                for (g, child) in children.as_slice().iter().enumerate() {
-                    match growths.get(g) {
-                        Some(growth) => after.push(grown(alloc, child, growth)?)?,
-                        None => after.push(copy(alloc, child)?)?,
-                    }
+        Growth::Same => counts,
+        Growth::New(new) => new,
+        Growth::Each(count, mut growths, mut places) => match counts {
+            Counts::Leaf(old) => Counts::Leaf(old),
+            Counts::Inner(_, mut children) => {
+                let mut g = 0;
+                while g < places.len() && !children.is_empty() && !growths.is_empty() {
+                    places.set(g, grown(children.remove(0), growths.remove(0)));
+                    g += 1;
                 }
-                Ok(Counts::Inner(*count, Items::from_vec(after)))
+                Counts::Inner(count, places)
             }
         },
-    }
-}
-
-/// The same counts.
-fn copy(alloc: Global, counts: &Counts) -> Result<Counts, AllocError>
-    ensures { IfOk result (λ same. same ≡ counts.now) }
-{
-    match counts {
-        Counts::Leaf(count) => Ok(Counts::Leaf(*count)),
-        Counts::Inner(count, children) => {
-            let mut same = Vec::with_capacity(alloc, children.len())?;
-            for child in children.as_slice() {
-                same.push(copy(alloc, child)?)?;
-            }
-            Ok(Counts::Inner(*count, Items::from_vec(same)))
-        }
     }
 }

@@ -28,7 +28,8 @@ pub fn nodes_count_points(cube: &Cube, points: &[Point], leaf: u32)
 /// A law: the leaves and the inner nodes of the counts are those of the octree's outline, in its order.
 pub fn nodes_are_those_of_outline(cube: &Cube, points: &[Point], leaf: u32)
     ensures leaves { leaf_paths (counted (octree leaf cube.now points.now)) ≡ map (λ (n : OutlineNode). n.path) (leaves leaf cube.now points.now) }
-    ensures inner { inner_paths (counted (octree leaf cube.now points.now)) ≡ map (λ (n : OutlineNode). n.path) (filter (λ (n : OutlineNode). n.inner) (outline (octree leaf cube.now points.now) cube.now)) }
+    ensures inner { inner_paths (counted (octree leaf cube.now points.now))
+        ≡ map (λ (n : OutlineNode). n.path) (filter (λ (n : OutlineNode). n.inner) (outline (octree leaf cube.now points.now) cube.now)) }
 {}
 
 /// A law: the path of a node leaves its cube at least 7 bits.
@@ -41,14 +42,22 @@ pub fn node_paths_fit(cube: &Cube, points: &[Point], leaf: u32)
 
 /// A law: leaves whose cubes contain the same point are one.
 pub fn leaves_of_a_point_are_one(cube: &Cube, points: &[Point], leaf: u32, p: &Point)
-    ensures { (path other : List ℕ) → IsTrue (is_leaf_at (counted (octree leaf cube.now points.now)) path) → IsTrue (is_leaf_at (counted (octree leaf cube.now points.now)) other)
+    ensures { (path other : List ℕ) → IsTrue (is_leaf_at (counted (octree leaf cube.now points.now)) path)
+        → IsTrue (is_leaf_at (counted (octree leaf cube.now points.now)) other)
         → IsTrue (contains (cube_at cube.now path) p.now) → IsTrue (contains (cube_at cube.now other) p.now) → path ≡ other }
 {}
 
 /// A law: what was a leaf, and is one once more points have come, was one in between.
-pub fn leaves_were_leaves_between(cube: &Cube, before: &[Point], next: &[Point], last: &[Point], leaf: u32)
+pub fn leaves_were_leaves_between(
+    cube: &Cube,
+    before: &[Point],
+    next: &[Point],
+    last: &[Point],
+    leaf: u32,
+)
     ensures { (path : List ℕ) → IsTrue (is_leaf_at (counted (octree leaf cube.now before.now)) path)
-        → IsTrue (is_leaf_at (counted (octree leaf cube.now ((before.now ++ next.now) ++ last.now))) path) → IsTrue (is_leaf_at (counted (octree leaf cube.now (before.now ++ next.now))) path) }
+        → IsTrue (is_leaf_at (counted (octree leaf cube.now ((before.now ++ next.now) ++ last.now))) path)
+        → IsTrue (is_leaf_at (counted (octree leaf cube.now (before.now ++ next.now))) path) }
 {}
 
 /// A law: once more points have come, the leaves that were leaves before are the leaves from before that are
@@ -58,5 +67,6 @@ pub fn leaves_stay_or_split(cube: &Cube, before: &[Point], next: &[Point], leaf:
     ensures stay { filter (is_leaf_at (counted (octree leaf cube.now before.now))) (leaf_paths (counted (octree leaf cube.now (before.now ++ next.now))))
         ≡ filter (is_leaf_at (counted (octree leaf cube.now (before.now ++ next.now)))) (leaf_paths (counted (octree leaf cube.now before.now))) }
     ensures split { overfull leaf cube.now (counted (octree leaf cube.now before.now)) next.now
-        ≡ filter (λ path. not (is_leaf_at (counted (octree leaf cube.now (before.now ++ next.now))) path)) (leaf_paths (counted (octree leaf cube.now before.now))) }
+        ≡ filter (λ path. not (is_leaf_at (counted (octree leaf cube.now (before.now ++ next.now))) path))
+        (leaf_paths (counted (octree leaf cube.now before.now))) }
 {}

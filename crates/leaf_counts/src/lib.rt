@@ -17,8 +17,8 @@ mod tests;
 pub use counts::Counts;
 pub use growth::Growth;
 pub use laws::{
-    commits_give_skeleton, leaves_of_a_point_are_one, leaves_stay_or_split, leaves_were_leaves_between,
-    node_paths_fit, nodes_are_those_of_outline, nodes_count_points,
+    commits_give_skeleton, leaves_of_a_point_are_one, leaves_stay_or_split,
+    leaves_were_leaves_between, node_paths_fit, nodes_are_those_of_outline, nodes_count_points,
 };
 pub use plan::{Plan, PlanRefusal, Spill};
 pub use skeleton::Skeleton;

@@ -1,6 +1,6 @@
 ghost use Rattle.std.specs.Prelude.{◌≡◌};
 
-use crate::counts::Counts;
+use crate::growth::Growth;
 use cube_math::{Path, Point};
 use std::alloc::AllocError;
 use std::marker::Model;
@@ -12,10 +12,11 @@ pub struct Spill {
     pub points: Vec<Point>,
 }
 
-/// What a batch does to a skeleton, with all the memory that doing it needs.
+/// What a batch does to a skeleton, with all the memory that doing it needs: the nodes that change, and no
+/// others.
 #[derive(Drop)]
 pub struct Plan {
-    pub(crate) counts: Counts,
+    pub(crate) growth: Growth,
     pub(crate) nodes: u32,
     pub(crate) splits: Vec<Path>,
     pub(crate) leaves: Vec<Path>,
@@ -26,12 +27,12 @@ impl Model for Plan {
 
     ghost Value = { PlanValue };
 
-    ghost use Rattle.leaf_counts.specs.contracts.counts.Counts as rows;
+    ghost use Rattle.leaf_counts.specs.contracts.growth.Growth as rows;
     ghost use Rattle.std.specs.Coded.{codes};
 
     ghost coded = { Prim.hlevel (codes, rows.the_row.coded) };
 
-    ghost view = { λ p. record { counts = p.counts; nodes = p.nodes; splits = p.splits.items; leaves = p.leaves.items } };
+    ghost view = { λ p. record { growth = p.growth; nodes = p.nodes; splits = p.splits.items; leaves = p.leaves.items } };
 }
 
 impl Plan {

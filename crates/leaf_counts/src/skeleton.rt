@@ -9,7 +9,7 @@ ghost use Rattle.leaf_counts.specs.Plans.{HasSpills, IsPublished, IsPlanOf, IsRe
 ghost use Rattle.leaf_counts.specs.Skeletons.{skeleton_of};
 
 use crate::counts::Counts;
-use crate::descent::{count_below, leaf_below};
+use crate::descent::{count_below, leaf_below, leaf_once_grown};
 use crate::growing::grow_all;
 use crate::growth::grown;
 use crate::overfilling::add_overfull;
@@ -18,6 +18,7 @@ use crate::progress::Progress;
 use cube_math::{Batch, Cube, Path, Point};
 use std::alloc::{AllocError, Global};
 use std::marker::Model;
+use std::mem;
 
 /// The nodes of an octree with their numbers of points, and not the points: what is kept of all
 /// batches that were committed.
@@ -42,6 +43,27 @@ impl Model for Skeleton {
     ghost view = { λ s. record { cube = s.cube; leaf = s.leaf; counts = s.counts } };
 
     ghost invariant = { λ s. IsSkeleton record { cube = s.cube; leaf = s.leaf; counts = s.counts } s.nodes };
+}
+
+impl Plan {
+    /// The path of the leaf in whose cube the point will lie once the plan is committed to this skeleton, of
+    /// which it is.
+    pub fn leaf_of(&self, skeleton: &Skeleton, p: &Point) -> Path
+        requires of { IsPlanOf skeleton.now self.now }
+        requires contained { IsTrue (contains skeleton.now.cube p.now) }
+        ensures leaf { IsTrue (is_leaf_at (planned skeleton.now self.now).counts result) }
+        ensures contained { IsTrue (contains (cube_at skeleton.now.cube result) p.now) }
+    {
+        // So that no path gets longer than 24 octants.
+        prove!(skeleton.cube.bits <= 31);
+        leaf_once_grown(
+            &skeleton.counts,
+            &self.growth,
+            Path::root(),
+            skeleton.cube,
+            p,
+        )
+    }
 }
 
 impl Skeleton {
@@ -120,6 +142,8 @@ impl Skeleton {
         ensures splits { IfOk result (λ plan. plan.splits ≡ new_inner self.now.counts (planned self.now plan).counts) }
         ensures leaves { IfOk result (λ plan. plan.leaves ≡ new_leaves self.now.counts (planned self.now plan).counts) }
         ensures within { IfOk result (λ plan. plan.nodes ≤ most) }
+        ensures bounded { (points : List PointValue) → IsPublished self.now batch.now.points spills.now points
+            → IfOk result (λ plan. nodes (octree self.now.leaf self.now.cube (points ++ batch.now.points)) ≤ most) }
         ensures refused { (points : List PointValue) → IsPublished self.now batch.now.points spills.now points → IfErr result (λ refusal. IsRefused refusal (nodes (octree self.now.leaf self.now.cube (points ++ batch.now.points))) most) }
     {
         let mut progress = Progress::new(alloc);
@@ -137,20 +161,22 @@ impl Skeleton {
             return Err(PlanRefusal::NodesFull { need, most });
         }
         Ok(Plan {
-            counts: grown(alloc, &self.counts, &growth)?,
+            growth,
             nodes: need as u32,
             splits: progress.splits,
             leaves: progress.leaves,
         })
     }
 
-    /// Does what was planned of the skeleton as it is. It takes no memory.
+    /// Does what was planned of the skeleton as it is. It changes the planned nodes alone, and takes no
+    /// memory.
     pub fn commit(&mut self, plan: Plan)
         requires { IsPlanOf self.old plan }
         ensures { self.new ≡ planned self.old plan }
     {
-        let Plan { counts, nodes, .. } = plan;
+        let Plan { growth, nodes, .. } = plan;
+        let counts = mem::replace(&mut self.counts, Counts::Leaf(0));
+        self.counts = grown(counts, growth);
         self.nodes = nodes;
-        self.counts = counts;
     }
 }

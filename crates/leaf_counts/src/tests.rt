@@ -1,4 +1,4 @@
-ghost use Rattle.std.specs.Prelude.{◌≡◌, ◌≤◌, ◌++◌, All, IsTrue, IfOk, IfSome, OnOk, length, map, drop};
+ghost use Rattle.std.specs.Prelude.{◌≡◌, ◌++◌, All, IsTrue, IfOk, IfSome, OnOk, map};
 ghost use Rattle.cube_math.specs.Cubes.{contains};
 ghost use Rattle.octree_model.specs.Bags.{IsSameBag};
 ghost use Rattle.octree_model.specs.Octree.{inside};
@@ -19,17 +19,14 @@ fn at(x: i32) -> Point {
 }
 
 /// The cube at a path that begins in this cube, or None where the way leads below 7 bits.
-fn cube_below(cube: Cube, path: &Path, steps: u32) -> Option<Cube>
-    requires { steps ≤ length path.now }
-    ensures { IfSome result (λ below. below ≡ cube_at cube (drop steps path.now)) }
+fn cube_below(cube: &Cube, path: &Path) -> Option<Cube>
+    ensures { IfSome result (λ below. below ≡ cube_at cube.now path.now) }
 {
-    if steps == path.len() {
-        return Some(cube);
+    if path.len() + 7 <= cube.bits {
+        Some(cube.at(path))
+    } else {
+        None
     }
-    if cube.bits <= 7 {
-        return None;
-    }
-    cube_below(cube.child(path.octant(steps)), path, steps + 1)
 }
 
 /// The points that the cube contains.
@@ -57,7 +54,7 @@ fn spills_of(
 {
     let mut spills = Vec::new(alloc);
     for path in paths {
-        let Some(below) = cube_below(cube, path, 0) else {
+        let Some(below) = cube_below(&cube, path) else {
             return Err("no cube at the path".into());
         };
         let points = points_in(alloc, &below, points)?;
@@ -101,6 +98,18 @@ fn leaf_in(skeleton: &Skeleton, cube: &Cube, p: &Point) -> Option<Path>
     }
 }
 
+/// The path that the leaf of a point will have by the plan, or None where the point lies outside.
+fn leaf_planned(plan: &Plan, skeleton: &Skeleton, cube: &Cube, p: &Point) -> Option<Path>
+    requires of { IsPlanOf skeleton.now plan.now }
+    requires cube { cube.now ≡ skeleton.now.cube }
+{
+    if cube.contains(p) {
+        Some(plan.leaf_of(skeleton, p))
+    } else {
+        None
+    }
+}
+
 /// Plans and commits a batch for the skeleton of these points, and takes the batch's points to them.
 fn publish(
     alloc: Global,
@@ -126,8 +135,7 @@ fn one_point_above_the_limit_splits_the_root(rt: HostRuntime) -> Result<(), Fail
     let cube = Cube::new(0, 0, 0, 8).ok_or("fits")?;
     let mut skeleton = Skeleton::new(rt.alloc(), cube, 2)?;
     let mut points = Vec::new(rt.alloc());
-    let first = [at(0), at(200)].to_vec(rt.alloc())?;
-    let Ok(batch) = Batch::new(0, first, &cube, 10) else {
+    let Ok(batch) = Batch::new(0, [at(0), at(200)].to_vec(rt.alloc())?, &cube, 10) else {
         return Err("no batch".into());
     };
     let Ok(plan) = plan_batch(rt.alloc(), &skeleton, &points, &batch, 1)? else {
@@ -136,15 +144,12 @@ fn one_point_above_the_limit_splits_the_root(rt: HostRuntime) -> Result<(), Fail
     assert!(rt; plan.splits().is_empty() && plan.leaves().is_empty());
     skeleton.commit(plan);
     points.extend_from_slice(batch.points())?;
-    let second = [at(1)].to_vec(rt.alloc())?;
-    let Ok(batch) = Batch::new(1, second, &cube, 10) else {
+    let Ok(batch) = Batch::new(1, [at(1)].to_vec(rt.alloc())?, &cube, 10) else {
         return Err("no batch".into());
     };
     let root = Path::root();
-    assert_eq!(rt;
-        skeleton.overfull(rt.alloc(), &batch)?.as_slice(),
-        [root].as_slice()
-    );
+    let paths = skeleton.overfull(rt.alloc(), &batch)?;
+    assert_eq!(rt; paths.as_slice(), [root].as_slice());
     let refusal = plan_batch(rt.alloc(), &skeleton, &points, &batch, 8)?.err();
     assert_eq!(rt; refusal, Some(PlanRefusal::NodesFull { need: 9, most: 8 }));
     assert_eq!(rt; skeleton.nodes(), 1);
@@ -154,6 +159,11 @@ fn one_point_above_the_limit_splits_the_root(rt: HostRuntime) -> Result<(), Fail
     assert_eq!(rt; plan.splits(), [root].as_slice());
     assert_eq!(rt; plan.leaves().len(), 8);
     assert_eq!(rt; plan.leaves()[7], root.child(7));
+    assert_eq!(rt;
+        leaf_planned(&plan, &skeleton, &cube, &at(200)),
+        Some(root.child(1))
+    );
+    assert_eq!(rt; leaf_in(&skeleton, &cube, &at(200)), Some(root));
     skeleton.commit(plan);
     assert_eq!(rt; skeleton.nodes(), 9);
     assert_eq!(rt; skeleton.count(&root), Some(3));

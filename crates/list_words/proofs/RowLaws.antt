@@ -3,7 +3,7 @@ use Rattle.std.proofs.Common.{◌≡◌, ◌≢◌, ℕ, ◌+◌, ◌<◌, inl, 
 use Rattle.std.specs.List.{Contains, sum_by}
 use Rattle.std.proofs.lemmas.Grind.{common_steps}
 use Rattle.std.proofs.lemmas.List.Elements.{Contains-append_left, Contains-append_right}
-use Rattle.std.proofs.lemmas.List.Sums.{sum_by-cons, sum_by-set}
+use Rattle.std.proofs.lemmas.List.Sums.{sum_by-set}
 use Rattle.std.proofs.lemmas.Bool.{cases_eq, cases_lt}
 use Rattle.std.proofs.lemmas.List.{length-set, get_or-set_same, get_or-set_other, get_or_past, set_past}
 use Rattle.list_machine.specs.declared.views.Grant.{Grant}
@@ -128,7 +128,7 @@ granted_more (g ∷ gs) rows l low =
     let r : Row = more_granted (row_in rows g.list) g.n in
     let long : l < length (set rows g.list r) = subst (λ n. l < n) (sym (length-set rows g.list r)) low in
     let rest : (row_in (grant_rows gs (set rows g.list r)) l).granted ≡ (row_in (set rows g.list r) l).granted + granted_in l gs = granted_more gs (set rows g.list r) l long in
-    let cons : granted_in l (g ∷ gs) ≡ cond (g.list == l) g.n 0 + granted_in l gs = sum_by-cons (λ (h : Grant). cond (h.list == l) h.n 0) g gs in
+    let cons : granted_in l (g ∷ gs) ≡ cond (g.list == l) g.n 0 + granted_in l gs = refl in
     omega (arith, rest, cons, one_more rows g l low)
 
 -- ---- lists are cleared

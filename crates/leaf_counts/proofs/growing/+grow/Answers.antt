@@ -103,7 +103,7 @@ grow-requires t c =
           root = c.requires.growing.root;
           points = c.requires.growing.points;
           batch = c.requires.growing.batch;
-          growing = child_growing c.requires.growing.root c.requires.growing.points c.requires.growing.batch c.args.leaf c.args.path c.child.result c.args.cube c.child-in-loop-g.result c.args.counts.now c.args.points.now c.as_slice-in-loop-g.result.now c.args.spills.now c.args.progress.now c.loop-g.progress c.in-Inner.count c.as_slice-below-items.result.now c.loop-g.growths.items c.loop-g.g c.below-item.result c.requires.growing.growing (c.in-Inner.is ∙ ap (Inner c.in-Inner.count) (sym c.as_slice-below-items.ensures)) (c.loop-g.invariant c.requires.growing.root c.requires.growing.points c.requires.growing.batch c.requires.growing.growing) (slice_get_read c.as_slice-below-items.result.now (length c.as_slice-below-items.result.now) c.loop-g.g c.below-item.result refl c.loop-g-test.true c.below-item.is) c.child.ensures c.child-in-loop-g.ensures part;
+          growing = child_growing c.requires.growing.root c.requires.growing.points c.requires.growing.batch c.args.leaf c.args.path c.child.result c.args.cube c.child-in-loop-g.result c.args.counts.now c.args.points.now c.as_slice-in-loop-g.result.now c.args.spills.now c.args.progress.now c.loop-g.progress c.in-Inner.count c.as_slice-below-items.result.now c.loop-g.growths.items c.loop-g.places.items c.loop-g.g c.below-item.result c.requires.growing.growing (c.in-Inner.is ∙ ap (Inner c.in-Inner.count) (sym c.as_slice-below-items.ensures)) (c.loop-g.invariant c.requires.growing.root c.requires.growing.points c.requires.growing.batch c.requires.growing.growing) (slice_get_read c.as_slice-below-items.result.now (length c.as_slice-below-items.result.now) c.loop-g.g c.below-item.result refl c.loop-g-test.true c.below-item.is) c.child.ensures c.child-in-loop-g.ensures part;
         },
         omega (arith, ap length c.child.ensures, length_push c.args.path c.loop-g.g, bits, node.splits, c.requires.room),
       ),
@@ -149,15 +149,15 @@ loop-g-preserved t c =
     let low : c.loop-g.g < 8 = omega (arith, node.eight, ap length c.as_slice-below-items.ensures, c.loop-g-test.true) in
     let part : c.as_slice-in-loop-g.result.now ≡ inside (child c.args.cube c.loop-g.g) c.args.points.now =
     c.as_slice-in-loop-g.ensures.value ∙ list_of_child vec_items c.args.cube c.args.points.now c.in_ok-lists-in-Inner.lists.items c.loop-g.g c.index.result.now c.in_ok-lists-in-Inner.ensures low c.index.ensures in
-    half_goes_on root before batch c.args.leaf c.args.path c.child.result c.args.cube c.child-in-loop-g.result c.args.counts.now c.args.points.now c.args.spills.now c.args.progress.now c.loop-g.progress c.grow.new.progress c.in-Inner.count c.as_slice-below-items.result.now c.loop-g.growths.items _ c.loop-g.g c.below-item.result _ growing (c.in-Inner.is ∙ ap (Inner c.in-Inner.count) (sym c.as_slice-below-items.ensures)) (c.loop-g.invariant root before batch growing) (slice_get_read c.as_slice-below-items.result.now (length c.as_slice-below-items.result.now) c.loop-g.g c.below-item.result refl c.loop-g-test.true c.below-item.is) c.child.ensures c.child-in-loop-g.ensures
-    (c.in_ok-grow-in-Inner.ensures root before batch (child_growing root before batch c.args.leaf c.args.path c.child.result c.args.cube c.child-in-loop-g.result c.args.counts.now c.args.points.now c.as_slice-in-loop-g.result.now c.args.spills.now c.args.progress.now c.loop-g.progress c.in-Inner.count c.as_slice-below-items.result.now c.loop-g.growths.items c.loop-g.g c.below-item.result growing (c.in-Inner.is ∙ ap (Inner c.in-Inner.count) (sym c.as_slice-below-items.ensures)) (c.loop-g.invariant root before batch growing) (slice_get_read c.as_slice-below-items.result.now (length c.as_slice-below-items.result.now) c.loop-g.g c.below-item.result refl c.loop-g-test.true c.below-item.is) c.child.ensures c.child-in-loop-g.ensures part)) c.in_ok-push-in-Inner.ensures.items
+    half_goes_on root before batch c.args.leaf c.args.path c.child.result c.args.cube c.child-in-loop-g.result c.args.counts.now c.args.points.now c.args.spills.now c.args.progress.now c.loop-g.progress c.grow.new.progress c.in-Inner.count c.as_slice-below-items.result.now c.loop-g.growths.items _ c.loop-g.places.items _ c.loop-g.g c.below-item.result _ _ growing (c.in-Inner.is ∙ ap (Inner c.in-Inner.count) (sym c.as_slice-below-items.ensures)) (c.loop-g.invariant root before batch growing) (slice_get_read c.as_slice-below-items.result.now (length c.as_slice-below-items.result.now) c.loop-g.g c.below-item.result refl c.loop-g-test.true c.below-item.is) c.child.ensures c.child-in-loop-g.ensures
+    (c.in_ok-grow-in-Inner.ensures root before batch (child_growing root before batch c.args.leaf c.args.path c.child.result c.args.cube c.child-in-loop-g.result c.args.counts.now c.args.points.now c.as_slice-in-loop-g.result.now c.args.spills.now c.args.progress.now c.loop-g.progress c.in-Inner.count c.as_slice-below-items.result.now c.loop-g.growths.items c.loop-g.places.items c.loop-g.g c.below-item.result growing (c.in-Inner.is ∙ ap (Inner c.in-Inner.count) (sym c.as_slice-below-items.ensures)) (c.loop-g.invariant root before batch growing) (slice_get_read c.as_slice-below-items.result.now (length c.as_slice-below-items.result.now) c.loop-g.g c.below-item.result refl c.loop-g-test.true c.below-item.is) c.child.ensures c.child-in-loop-g.ensures part)) c.in_ok-push-in-Inner.ensures.items c.in_ok-push-in-Inner-2.ensures.items
 
 pub returns-after-loop-g : goal.returns-after-loop-g
 returns-after-loop-g t c =
     λ root before batch growing.
     let node : IsInnerNode c.args.cube c.in-Inner.children = inner_node c.requires.growing.root c.requires.growing.points c.requires.growing.batch c.args.leaf c.args.path c.args.cube c.args.counts.now c.args.points.now c.args.spills.now c.args.progress.now.used c.in-Inner.count c.in-Inner.children c.requires.growing.growing c.in-Inner.is in
-    grown_whole root before batch c.args.leaf c.args.path c.args.cube c.args.counts.now c.args.points.now c.args.spills.now c.args.progress.now c.loop-g.progress c.in-Inner.count _ c.as_slice-below-items.result.now c.loop-g.growths.items c.from_vec.result c.loop-g.g growing (c.in-Inner.is ∙ ap (Inner c.in-Inner.count) (sym c.as_slice-below-items.ensures)) (c.loop-g.invariant root before batch growing) (omega (arith, c.loop-g-test.false)) (omega (arith, c.loop-g.auto.g-end, node.eight, ap length c.as_slice-below-items.ensures)) refl c.from_vec.ensures
+    grown_whole root before batch c.args.leaf c.args.path c.args.cube c.args.counts.now c.args.points.now c.args.spills.now c.args.progress.now c.loop-g.progress c.in-Inner.count _ c.as_slice-below-items.result.now c.loop-g.growths.items c.from_vec.result c.loop-g.places.items c.from_vec-in-Inner.result c.loop-g.g growing (c.in-Inner.is ∙ ap (Inner c.in-Inner.count) (sym c.as_slice-below-items.ensures)) (c.loop-g.invariant root before batch growing) (omega (arith, c.loop-g-test.false)) (omega (arith, c.loop-g.auto.g-end, node.eight, ap length c.as_slice-below-items.ensures)) refl c.from_vec.ensures c.from_vec-in-Inner.ensures
 
 pub loop-g-init : goal.loop-g-init
 loop-g-init t c =
-    λ root before batch growing. half_begins root before batch c.args.leaf c.args.path c.args.cube c.args.counts.now c.args.points.now c.args.spills.now c.args.progress.now c.in-Inner.count c.as_slice-below-items.result.now c.in_ok-growths-in-Inner.growths.items growing (c.in-Inner.is ∙ ap (Inner c.in-Inner.count) (sym c.as_slice-below-items.ensures)) c.in_ok-growths-in-Inner.ensures.items
+    λ root before batch growing. half_begins root before batch c.args.leaf c.args.path c.args.cube c.args.counts.now c.args.points.now c.args.spills.now c.args.progress.now c.in-Inner.count c.as_slice-below-items.result.now c.in_ok-growths-in-Inner.growths.items c.in_ok-places-in-Inner.places.items growing (c.in-Inner.is ∙ ap (Inner c.in-Inner.count) (sym c.as_slice-below-items.ensures)) c.in_ok-growths-in-Inner.ensures.items c.in_ok-places-in-Inner.ensures.items

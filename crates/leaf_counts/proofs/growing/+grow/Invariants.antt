@@ -11,4 +11,4 @@ decreases-grow l = l.cube.bits
 abbrev pub invariant-loop-g : goal.invariant-loop-g
 invariant-loop-g l =
     (root : CubeValue) (before batch : List PointValue) → IsGrowing root before batch l.leaf l.path l.cube l.counts l.points l.spills l.fn.progress.used
-    → IsHalfGrown before batch l.leaf l.path l.cube l.counts l.below-items l.spills l.fn.progress l.progress l.growths.items l.g
+    → IsHalfGrown before batch l.leaf l.path l.cube l.counts l.below-items l.spills l.fn.progress l.progress l.growths.items l.places.items l.g

@@ -1,6 +1,3 @@
-use Rattle.std.proofs.Common.{ap}
-use Rattle.leaf_counts.specs.Nodes.{is_leaf_at}
-use Rattle.leaf_counts.proofs.CountLaws.{counted_is}
 use Rattle.leaf_counts.proofs.LeafLaws.{one_leaf, leaf_by_counts}
 use Rattle.leaf_counts.proofs.laws.leaves_of_a_point_are_one.Goals as goal
 

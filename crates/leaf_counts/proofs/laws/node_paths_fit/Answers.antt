@@ -1,4 +1,4 @@
-use Rattle.std.proofs.Common.{◌≡◌, ◌≤◌, ◌∙◌, ap, sym, arith}
+use Rattle.std.proofs.Common.{◌≡◌, ◌∙◌, ap, sym, arith}
 use Rattle.cube_math.specs.Cubes.{CubeValue}
 use Rattle.leaf_counts.specs.declared.counts.Counts.{Counts}
 use Rattle.leaf_counts.specs.Nodes.{node_at}

@@ -1,4 +1,6 @@
-use Rattle.std.proofs.Common.{◌≡◌, ◌+◌, ◌<◌, ◌≤◌, ◌^◌, ◌∙◌, ◌++◌, ap, sym, subst, arith, length, List}
+use Rattle.std.proofs.Common.{◌≡◌, ◌+◌, ◌<◌, ◌≤◌, ◌^◌, ◌∙◌, ◌++◌, ap, sym, subst, arith, length, List, IsTrue}
+use Rattle.std.specs.List.{All}
+use Rattle.cube_math.specs.Cubes.{CubeValue, contains}
 use Rattle.cube_math.specs.Points.{PointValue}
 use Rattle.leaf_counts.specs.Nodes.{node_total}
 use Rattle.leaf_counts.specs.Overfull.{overfull}
@@ -29,6 +31,12 @@ plan-requires-clause-spills c =
       published = published l ps batch c.as_slice.result.now c.in_ok-spills.spills.items c.as_slice-2.result.now all few paths c.in_ok-spills.ensures.paths
           (c.in_ok-spills.ensures.bags l.skeleton.leaf l.skeleton.cube ps (root_is l ps all) (over_leaves l ps batch c.as_slice.result.now all paths)) c.as_slice-2.ensures.value;
     }
+
+pub grown-requires-clause-contained : goal.grown-requires-clause-contained
+grown-requires-clause-contained c =
+    let whole : c.args.batch.now.cube ≡ c.self.inside.cube = c.requires.cube ∙ ap (λ (l : LevelsValue). l.skeleton.cube) (sym c.self.view_is) ∙ sym c.self.invariant.1 in
+    let P : CubeValue → List PointValue → Type 0 = λ cube ps. All (λ p. IsTrue (contains cube p)) ps in
+    subst (P c.self.inside.cube) (sym c.points.ensures.value) (subst (λ (cube : CubeValue). P cube c.args.batch.now.points) whole c.points.ensures.kept.contained)
 
 pub returns-clause-after : goal.returns-clause-after
 returns-clause-after c =

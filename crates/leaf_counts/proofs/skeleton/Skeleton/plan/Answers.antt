@@ -1,11 +1,10 @@
-use Rattle.std.proofs.Common.{◌≡◌, ◌+◌, ◌*◌, ◌<◌, ◌^◌, ◌++◌, ap, sym, ◌∙◌, subst, refl, arith, length, rules, List, [], IsTrue}
+use Rattle.std.proofs.Common.{◌≡◌, ◌+◌, ◌*◌, ◌<◌, ◌≤◌, ◌^◌, ◌++◌, ap, sym, ◌∙◌, subst, refl, arith, length, rules, List, [], IsTrue}
 use Rattle.std.specs.List.{All}
 use Rattle.cube_math.specs.Points.{PointValue}
 use Rattle.cube_math.specs.Cubes.{CubeValue, contains}
 use Rattle.octree_model.specs.Counts.{nodes}
 use Rattle.octree_model.specs.Octree.{octree}
 use Rattle.leaf_counts.specs.Growing.{IsGrown}
-use Rattle.leaf_counts.specs.Growths.{grown}
 use Rattle.leaf_counts.specs.Plans.{HasSpills, IsPublished, IsPlanOf, PlanValue, planned, new_inner, new_leaves}
 use Rattle.leaf_counts.specs.Skeletons.{SkeletonValue, skeleton_of}
 use Rattle.leaf_counts.proofs.PlanLaws.{root_growing, need_is, need_fits, planned_is, is_plan, new_inner_is, new_leaves_are}
@@ -77,10 +76,9 @@ returns-clause-of c =
     let has : HasSpills s points c.args.spills.now = subst (λ (x : SkeletonValue). HasSpills x points c.args.spills.now) (sym c.self.view_is) c.requires.spills in
     let grows : IsGrown has.points points s.leaf [] s.cube s.counts c.new-progress.result c.grow_all.new.progress c.in_ok-growth.growth = c.in_ok-growth.ensures.grown s.cube has.points points (root_growing s points c.points.result.now c.args.spills.now c.new-progress.result.used has.points has.published contained c.points.ensures.value c.new-progress.ensures.used) in
     let length_of : c.len.result ≡ length c.grow_all.new.progress.splits.items = omega (arith, c.len.ensures, c.grow_all.new.progress.splits.ok) in
-    let made : c.in_ok-grown.field-0 ≡ grown c.in_ok-growth.growth s.counts = c.in_ok-grown.ensures in
-    let plan : PlanValue = record { counts = c.in_ok-grown.field-0; nodes = c.from.result + 8 * c.len.result; splits = c.grow_all.new.progress.splits.items; leaves = c.grow_all.new.progress.leaves.items } in
+    let plan : PlanValue = record { growth = c.in_ok-growth.growth; nodes = c.from.result + 8 * c.len.result; splits = c.grow_all.new.progress.splits.items; leaves = c.grow_all.new.progress.leaves.items } in
     subst (λ (x : SkeletonValue). IsPlanOf x plan) c.self.view_is
-    (is_plan s has.points points c.new-progress.result c.grow_all.new.progress c.in_ok-growth.growth plan has.published.is has.published.few grows made c.new-progress.ensures.splits (λ i. (c.from.ensures ∙ c.self.invariant.total) i + 8 * length_of i))
+    (is_plan s has.points points c.new-progress.result c.grow_all.new.progress c.in_ok-growth.growth plan has.published.is has.published.few grows refl c.new-progress.ensures.splits (λ i. (c.from.ensures ∙ c.self.invariant.total) i + 8 * length_of i))
 
 pub returns-clause-after : goal.returns-clause-after
 returns-clause-after c =
@@ -88,11 +86,10 @@ returns-clause-after c =
     let points : List PointValue = c.args.batch.now.points in
     let inside_cube : c.args.batch.now.cube ≡ s.cube = c.requires.cube ∙ ap (λ (x : SkeletonValue). x.cube) (sym c.self.view_is) in
     let contained : All (λ p. IsTrue (contains s.cube p)) points = subst (λ (cube : CubeValue). All (λ p. IsTrue (contains cube p)) points) inside_cube c.points.ensures.kept.contained in
-    let made : c.in_ok-grown.field-0 ≡ grown c.in_ok-growth.growth s.counts = c.in_ok-grown.ensures in
-    let plan : PlanValue = record { counts = c.in_ok-grown.field-0; nodes = c.from.result + 8 * c.len.result; splits = c.grow_all.new.progress.splits.items; leaves = c.grow_all.new.progress.leaves.items } in
+    let plan : PlanValue = record { growth = c.in_ok-growth.growth; nodes = c.from.result + 8 * c.len.result; splits = c.grow_all.new.progress.splits.items; leaves = c.grow_all.new.progress.leaves.items } in
     λ before published.
     subst (λ (x : SkeletonValue). IsPublished x points c.args.spills.now before → planned x plan ≡ skeleton_of x.leaf x.cube (before ++ points)) c.self.view_is
-    (λ own. planned_is s before points c.new-progress.result c.grow_all.new.progress c.in_ok-growth.growth plan (c.in_ok-growth.ensures.grown s.cube before points (root_growing s points c.points.result.now c.args.spills.now c.new-progress.result.used before own contained c.points.ensures.value c.new-progress.ensures.used)) made) published
+    (λ own. planned_is s before points c.new-progress.result c.grow_all.new.progress c.in_ok-growth.growth plan (c.in_ok-growth.ensures.grown s.cube before points (root_growing s points c.points.result.now c.args.spills.now c.new-progress.result.used before own contained c.points.ensures.value c.new-progress.ensures.used)) refl) published
 
 pub returns-clause-splits : goal.returns-clause-splits
 returns-clause-splits c =
@@ -103,9 +100,8 @@ returns-clause-splits c =
     let has : HasSpills s points c.args.spills.now = subst (λ (x : SkeletonValue). HasSpills x points c.args.spills.now) (sym c.self.view_is) c.requires.spills in
     let grows : IsGrown has.points points s.leaf [] s.cube s.counts c.new-progress.result c.grow_all.new.progress c.in_ok-growth.growth = c.in_ok-growth.ensures.grown s.cube has.points points (root_growing s points c.points.result.now c.args.spills.now c.new-progress.result.used has.points has.published contained c.points.ensures.value c.new-progress.ensures.used) in
     let length_of : c.len.result ≡ length c.grow_all.new.progress.splits.items = omega (arith, c.len.ensures, c.grow_all.new.progress.splits.ok) in
-    let made : c.in_ok-grown.field-0 ≡ grown c.in_ok-growth.growth s.counts = c.in_ok-grown.ensures in
-    let plan : PlanValue = record { counts = c.in_ok-grown.field-0; nodes = c.from.result + 8 * c.len.result; splits = c.grow_all.new.progress.splits.items; leaves = c.grow_all.new.progress.leaves.items } in
-    subst (λ (x : SkeletonValue). plan.splits ≡ new_inner x.counts plan.counts) c.self.view_is (new_inner_is s has.points points c.new-progress.result c.grow_all.new.progress c.in_ok-growth.growth plan grows made c.new-progress.ensures.splits)
+    let plan : PlanValue = record { growth = c.in_ok-growth.growth; nodes = c.from.result + 8 * c.len.result; splits = c.grow_all.new.progress.splits.items; leaves = c.grow_all.new.progress.leaves.items } in
+    subst (λ (x : SkeletonValue). plan.splits ≡ new_inner x.counts (planned x plan).counts) c.self.view_is (new_inner_is s has.points points c.new-progress.result c.grow_all.new.progress c.in_ok-growth.growth plan grows refl c.new-progress.ensures.splits)
 
 pub returns-clause-leaves : goal.returns-clause-leaves
 returns-clause-leaves c =
@@ -116,6 +112,19 @@ returns-clause-leaves c =
     let has : HasSpills s points c.args.spills.now = subst (λ (x : SkeletonValue). HasSpills x points c.args.spills.now) (sym c.self.view_is) c.requires.spills in
     let grows : IsGrown has.points points s.leaf [] s.cube s.counts c.new-progress.result c.grow_all.new.progress c.in_ok-growth.growth = c.in_ok-growth.ensures.grown s.cube has.points points (root_growing s points c.points.result.now c.args.spills.now c.new-progress.result.used has.points has.published contained c.points.ensures.value c.new-progress.ensures.used) in
     let length_of : c.len.result ≡ length c.grow_all.new.progress.splits.items = omega (arith, c.len.ensures, c.grow_all.new.progress.splits.ok) in
-    let made : c.in_ok-grown.field-0 ≡ grown c.in_ok-growth.growth s.counts = c.in_ok-grown.ensures in
-    let plan : PlanValue = record { counts = c.in_ok-grown.field-0; nodes = c.from.result + 8 * c.len.result; splits = c.grow_all.new.progress.splits.items; leaves = c.grow_all.new.progress.leaves.items } in
-    subst (λ (x : SkeletonValue). plan.leaves ≡ new_leaves x.counts plan.counts) c.self.view_is (new_leaves_are s has.points points c.new-progress.result c.grow_all.new.progress c.in_ok-growth.growth plan grows made c.new-progress.ensures.leaves)
+    let plan : PlanValue = record { growth = c.in_ok-growth.growth; nodes = c.from.result + 8 * c.len.result; splits = c.grow_all.new.progress.splits.items; leaves = c.grow_all.new.progress.leaves.items } in
+    subst (λ (x : SkeletonValue). plan.leaves ≡ new_leaves x.counts (planned x plan).counts) c.self.view_is (new_leaves_are s has.points points c.new-progress.result c.grow_all.new.progress c.in_ok-growth.growth plan grows refl c.new-progress.ensures.leaves)
+
+pub returns-clause-bounded : goal.returns-clause-bounded
+returns-clause-bounded c =
+    let s : SkeletonValue = record { cube = c.self.inside.cube; leaf = c.self.inside.leaf; counts = c.self.inside.counts } in
+    let points : List PointValue = c.args.batch.now.points in
+    let inside_cube : c.args.batch.now.cube ≡ s.cube = c.requires.cube ∙ ap (λ (x : SkeletonValue). x.cube) (sym c.self.view_is) in
+    let contained : All (λ p. IsTrue (contains s.cube p)) points = subst (λ (cube : CubeValue). All (λ p. IsTrue (contains cube p)) points) inside_cube c.points.ensures.kept.contained in
+    let length_of : c.len.result ≡ length c.grow_all.new.progress.splits.items = omega (arith, c.len.ensures, c.grow_all.new.progress.splits.ok) in
+    λ before published.
+    subst (λ (x : SkeletonValue). IsPublished x points c.args.spills.now before → nodes (octree x.leaf x.cube (before ++ points)) ≤ c.args.most) c.self.view_is
+    (λ own.
+    let grows : IsGrown before points s.leaf [] s.cube s.counts c.new-progress.result c.grow_all.new.progress c.in_ok-growth.growth = c.in_ok-growth.ensures.grown s.cube before points (root_growing s points c.points.result.now c.args.spills.now c.new-progress.result.used before own contained c.points.ensures.value c.new-progress.ensures.used) in
+    let need : c.from.result + 8 * c.len.result ≡ nodes (octree s.leaf s.cube (before ++ points)) = (λ i. (c.from.ensures ∙ c.self.invariant.total) i + 8 * length_of i) ∙ need_is s before points c.new-progress.result c.grow_all.new.progress c.in_ok-growth.growth own.is grows c.new-progress.ensures.splits in
+    omega (arith, need, c.if-need-from.false, c.from-2.ensures)) published

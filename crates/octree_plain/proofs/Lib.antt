@@ -5,4 +5,5 @@ pub mod LeastKeys
 pub mod ListingLaws
 pub mod NodeLaws
 pub mod SpreadLaws
+pub mod SummaryLaws
 pub mod Words

@@ -25,7 +25,7 @@ all_counted [] = refl
 all_counted (p ∷ ps) = omega (arith, sum_by-cons (λ q. 1) p ps, all_counted ps)
 
 -- the leaves have as many points as lie in the cube
-leaves_hold : (leaf depth : ℕ) (c : CubeValue) (ps : List PointValue) → depth ≤ c.bits → length (leaf_points (octree_at leaf depth c ps)) ≡ length (inside c ps)
+pub leaves_hold : (leaf depth : ℕ) (c : CubeValue) (ps : List PointValue) → depth ≤ c.bits → length (leaf_points (octree_at leaf depth c ps)) ≡ length (inside c ps)
 leaves_hold leaf depth c ps l = sym (all_counted (leaf_points (octree_at leaf depth c ps))) ∙ same_points (λ p. true) leaf depth c ps l ∙ all_counted (inside c ps)
 
 -- the number that an inner node keeps

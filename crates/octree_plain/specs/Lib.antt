@@ -4,3 +4,4 @@ pub mod Descent
 pub mod Fitting
 pub mod Listing
 pub mod Sampling
+pub mod Summary

@@ -15,6 +15,7 @@ mod listing;
 mod listing_tests;
 mod outlines;
 mod sampling;
+mod summary;
 
 pub use bounds::bounds_text;
 pub use cell_set::push_marked_cells;
@@ -24,3 +25,4 @@ pub use growth::{build, spread};
 pub use listing::nodes_text;
 pub use octree_model::{InnerNode, OutlineNode, Points, Tree, Voxel};
 pub use outlines::outline;
+pub use summary::demo_text;

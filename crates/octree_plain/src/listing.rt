@@ -41,7 +41,7 @@ pub(crate) fn write_cube(out: &mut String, cube: &Cube) -> Result<(), AllocError
 }
 
 /// How many points the leaves of the octree have together.
-fn point_count(tree: &Tree) -> u64
+pub(crate) fn point_count(tree: &Tree) -> u64
     requires { IsOctree tree.now }
     ensures { result ≡ length (leaf_points tree.now) }
 {

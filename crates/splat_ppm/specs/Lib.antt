@@ -1,3 +1,4 @@
 pub mod Canvases
 pub mod Lowering
 pub mod Spots
+pub mod Squares

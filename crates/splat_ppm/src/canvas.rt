@@ -7,8 +7,8 @@ ghost use Rattle.splat_ppm.specs.Canvases.{Shows, drawn_keys};
 
 use crate::frame::Frame;
 use crate::items::{point_item, voxel_item};
-use crate::pixels::{lower_square, part_within};
-use crate::spot::project;
+use crate::pixels::lower_square;
+use crate::square::square_of;
 use camera_cut::{Camera, Item};
 use cube_math::{Cube, Point};
 use octree_model::{Tree, Voxel};
@@ -16,7 +16,7 @@ use std::alloc::{AllocError, Global};
 use std::marker::Model;
 
 /// The key of a pixel at which nothing was drawn: above all keys of items, and with the colour number 0.
-const NO_KEY: u64 = 1 << 60;
+pub const NO_KEY: u64 = 1 << 60;
 
 /// A picture while items are drawn: of each pixel the least key so far. It is seen as the bag of the items
 /// drawn so far, by `Shows`.
@@ -137,12 +137,10 @@ fn draw_on(keys: &mut [u64], camera: &Camera, item: &Item)
     ensures size { length keys.new ≡ length keys.old }
     ensures drawn { (items : List ItemValue) → keys.old ≡ drawn_keys camera.now items → keys.new ≡ drawn_keys camera.now (items ++ item.now ∷ []) }
 {
-    let Some(spot) = project(item, camera) else {
+    let Some(square) = square_of(item, camera) else {
         return;
     };
-    let columns = part_within(spot.left, spot.side, camera.width());
-    let rows = part_within(spot.top, spot.side, camera.height());
-    lower_square(keys, camera.width() as usize, columns, rows, spot.key);
+    lower_square(keys, camera.width() as usize, square);
 }
 
 /// The frame of items that a camera sees.

@@ -59,7 +59,7 @@ fn push_voxels(cube: &Cube, voxels: &[Voxel], out: &mut Vec<Item>) -> Result<(),
 
 /// The item of a leaf's point.
 #[inline]
-pub(crate) fn point_item(point: &Point) -> Item
+pub fn point_item(point: &Point) -> Item
     ensures { result ≡ point_item point.now }
 {
     Item {
@@ -73,7 +73,7 @@ pub(crate) fn point_item(point: &Point) -> Item
 
 /// The item of a voxel of a node with this cube.
 #[inline]
-pub(crate) fn voxel_item(cube: &Cube, voxel: &Voxel) -> Item
+pub fn voxel_item(cube: &Cube, voxel: &Voxel) -> Item
     requires splits { 7 < cube.now.bits }
     ensures { result ≡ voxel_item cube.now voxel.now }
 {

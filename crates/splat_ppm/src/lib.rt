@@ -9,13 +9,16 @@ mod laws;
 mod picture;
 mod pixels;
 mod spot;
+mod square;
 #[cfg(test)]
 mod tests;
 
 pub use camera_cut::Item;
-pub use canvas::{Canvas, splat};
+pub use canvas::{Canvas, NO_KEY, splat};
 pub use frame::Frame;
-pub use items::{leaf_items, voxel_items};
+pub use items::{leaf_items, point_item, voxel_item, voxel_items};
 pub use laws::{order_of_items_is_of_no_matter, same_points_have_same_picture};
 pub use picture::{picture_of, ppm};
+pub use pixels::Square;
 pub use spot::{Spot, project};
+pub use square::square_of;

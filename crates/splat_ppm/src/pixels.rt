@@ -10,6 +10,17 @@ pub struct Part {
     pub end: usize,
 }
 
+/// The pixels of a picture that an item covers, and the key that it has there: those in the columns from `left`
+/// on, below `right`, and in the rows from `top` on, below `bottom`.
+#[derive(Clone, Copy)]
+pub struct Square {
+    pub left: usize,
+    pub right: usize,
+    pub top: usize,
+    pub bottom: usize,
+    pub key: u64,
+}
+
 /// The part of an axis of so many pixels that lies from `begin` on for `side` pixels.
 #[inline]
 pub fn part_within(begin: i64, side: u64, pixels: u32) -> Part
@@ -34,18 +45,18 @@ fn clamp_to(at: i64, pixels: u32) -> usize
     at.clamp(0, i64::from(pixels)) as usize
 }
 
-/// Lowers the keys of a square: those of some columns and some rows of a picture of this width.
+/// Lowers the keys of a square of a picture of this width.
 #[inline]
-pub fn lower_square(keys: &mut [u64], width: usize, columns: Part, rows: Part, key: u64)
+pub fn lower_square(keys: &mut [u64], width: usize, square: Square)
     requires width { 0 < width }
-    requires ordered { columns.first ≤ columns.end }
-    requires columns { columns.end ≤ width }
-    requires rows { rows.end * width ≤ length keys.old }
-    ensures { AreLowered (lies_in_square width columns.first columns.end rows.first rows.end) key keys.old keys.new }
+    requires ordered { square.left ≤ square.right }
+    requires columns { square.right ≤ width }
+    requires rows { square.bottom * width ≤ length keys.old }
+    ensures { AreLowered (lies_in_square width square.left square.right square.top square.bottom) square.key keys.old keys.new }
 {
-    for row in rows.first..rows.end {
+    for row in square.top..square.bottom {
         let start = row * width;
-        lower(keys, start + columns.first, start + columns.end, key);
+        lower(keys, start + square.left, start + square.right, square.key);
     }
 }
 

@@ -3,4 +3,4 @@ use Rattle.splat_ppm.specs.Lowering.{AreLowered, lies_in_square}
 use Rattle.splat_ppm.proofs.pixels.lower_square.Given as goal
 
 abbrev pub invariant-loop-row : goal.invariant-loop-row
-invariant-loop-row l = AreLowered (lies_in_square l.width l.columns.first l.columns.end l.fn.rows.first (min l.row l.fn.rows.end)) l.key l.fn.keys l.keys
+invariant-loop-row l = AreLowered (lies_in_square l.width l.square.left l.square.right l.square.top (min l.row l.square.bottom)) l.square.key l.fn.keys l.keys

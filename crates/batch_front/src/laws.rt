@@ -6,7 +6,7 @@ ghost use Rattle.batch_front.specs.Turns.{At, Kept};
 ghost use Rattle.batch_front.specs.Passes.{FrontValue, pass_value};
 ghost use Rattle.batch_front.specs.declared.rule.View.{View};
 
-use crate::event::Chronicle;
+use crate::chronicle::Chronicle;
 
 /// A law: two passes of one front never both hold the turn. The front's table keeps the rule, `Kept`,
 /// between any two steps of any threads. In it each pass has a seat of its own, and the seat's view says

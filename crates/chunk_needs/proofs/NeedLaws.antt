@@ -213,3 +213,39 @@ first_need config input loader points =
   where
     less : (n : ℕ) → chunks_for (0 + n) - chunks_for 0 ≡ chunks_for n
     less n = omega arith
+
+-- an admission adds to what a path owns where it leads to no leaf
+granted_same : (config : Config) (events : Record) (input loader : ℕ) (points : List PointValue) (path : List ℕ) → is_leaf_of config (published events) path ≡ false
+    → granted config (events ++ (Admission input points, loader) ∷ []) path ≡ granted config events path
+granted_same config events input loader points path none =
+    let f : AdmissionValue → ℕ = λ a. cond (is_leaf_of config a.before path) (number_in config path a.points) 0 in
+    ap (sum_by f) (admissions-admission events input loader points) ∙ sum_by-append f (admissions events) (record { before = published events; points = points } ∷ [])
+    ∙ ap (λ n. granted config events path + n) (sum_one f record { before = published events; points = points } ∙ ap (λ b. cond b (number_in config path points) 0) none)
+    ∙ nothing (granted config events path)
+  where
+    nothing : (n : ℕ) → n + 0 ≡ n
+    nothing n = omega arith
+
+owned_more : (config : Config) (events : Record) (input loader : ℕ) (points : List PointValue) (path : List ℕ) → is_leaf_of config (published events) path ≡ false
+    → owned config (events ++ (Admission input points, loader) ∷ []) path ≡ owned config events path + number_in config path points
+owned_more config events input loader points path none =
+    let f : AdmissionValue → ℕ = λ a. cond (is_leaf_of config a.before path) 0 (number_in config path a.points) in
+    ap (sum_by f) (admissions-admission events input loader points) ∙ sum_by-append f (admissions events) (record { before = published events; points = points } ∷ [])
+    ∙ ap (λ n. owned config events path + n) (sum_one f record { before = published events; points = points } ∙ ap (λ b. cond b 0 (number_in config path points)) none)
+
+pub admitted_at_leaf : (config : Config) (events : Record) (input loader : ℕ) (points : List PointValue) (path : List ℕ) → is_leaf_of config (published events) path ≡ true
+    → (granted config (events ++ (Admission input points, loader) ∷ []) path ≡ granted config events path + number_in config path points)
+    × (owned config (events ++ (Admission input points, loader) ∷ []) path ≡ owned config events path)
+admitted_at_leaf config events input loader points path leaf = (granted_more config events input loader points path leaf, owned_same config events input loader points path leaf)
+
+pub admitted_elsewhere : (config : Config) (events : Record) (input loader : ℕ) (points : List PointValue) (path : List ℕ) → is_leaf_of config (published events) path ≡ false
+    → (granted config (events ++ (Admission input points, loader) ∷ []) path ≡ granted config events path)
+    × (owned config (events ++ (Admission input points, loader) ∷ []) path ≡ owned config events path + number_in config path points)
+admitted_elsewhere config events input loader points path none = (granted_same config events input loader points path none, owned_more config events input loader points path none)
+
+-- events that admit nothing change neither
+pub slots_stay : (config : Config) (events after : Record) (path : List ℕ) → admissions after ≡ admissions events → (granted config after path ≡ granted config events path) × (owned config after path ≡ owned config events path)
+slots_stay config events after path same = (
+  ap (sum_by (λ (a : AdmissionValue). cond (is_leaf_of config a.before path) (number_in config path a.points) 0)) same,
+  ap (sum_by (λ (a : AdmissionValue). cond (is_leaf_of config a.before path) 0 (number_in config path a.points))) same,
+)

@@ -24,7 +24,7 @@ use Rattle.chunk_needs.specs.Leaves.{is_leaf_of, leaves, number_in, split_leaves
 use Rattle.chunk_needs.specs.Limits.{nodes_of}
 use Rattle.chunk_needs.specs.Needs.{leaf_chunks, live, need, taken, taken_behind}
 use Rattle.chunk_needs.specs.Slots.{granted, owned}
-use Rattle.chunk_needs.proofs.NeedLaws.{live_after_admission, live_after_publication, look_live, number-append}
+use Rattle.chunk_needs.proofs.NeedLaws.{live_after_admission, live_after_publication, look_live, nothing_live, number-append}
 use Rattle.chunk_needs.proofs.LevelLaws.{filled, inner_le, inner_sum, leaf_sum, levels, split_sum, splits_become_inner}
 
 -- points by admissions
@@ -37,7 +37,7 @@ number_joined config path (a ∷ as') =
     let r = number_joined config path as' in let x = number-append config path a.points (all_points as') in let y = sum_by-cons (λ (b : AdmissionValue). number_in config path b.points) a as' in omega arith
 
 -- each admitted point of a leaf is granted or owned
-granted_or_owned : (config : Config) (path : List ℕ) (as' : List AdmissionValue)
+pub granted_or_owned : (config : Config) (path : List ℕ) (as' : List AdmissionValue)
     → sum_by (λ (a : AdmissionValue). cond (is_leaf_of config a.before path) (number_in config path a.points) 0) as' + sum_by (λ (a : AdmissionValue). cond (is_leaf_of config a.before path) 0 (number_in config path a.points)) as'
     ≡ number_in config path (all_points as')
 granted_or_owned config path [] = refl
@@ -179,3 +179,20 @@ taken_adds config events e = from [] events
         let r = from (before ++ x ∷ []) es in
         let a = ap (λ (l : Record). need config l e) (append_assoc before (x ∷ []) es) in
         let t : need config before x + taken_behind config (before ++ x ∷ []) (es ++ e ∷ []) ≡ (need config before x + taken_behind config (before ++ x ∷ []) es) + need config (before ++ x ∷ es) e = omega arith in t
+
+-- no more chunks live than were ever taken
+live_step : (config : Config) (events : Record) (e : Event × ℕ) → live config (events ++ e ∷ []) ≤ live config events + need config events e
+live_step config events (Admission input points, loader) = let a = live_after_admission config events input loader points in omega arith
+live_step config events (Publication input points, loader) = let a = live_after_publication config events input loader points in omega arith
+live_step config events (Look, pass) = let a = look_live config events pass in omega arith
+
+live_behind : (config : Config) (before events : Record) → live config (before ++ events) ≤ live config before + taken_behind config before events
+live_behind config before [] = let a = ap (live config) (append-nil before) in omega arith
+live_behind config before (e ∷ events) =
+    let one = live_step config before e in
+    let rest = live_behind config (before ++ e ∷ []) events in
+    let a = ap (live config) (append_assoc before (e ∷ []) events) in
+    omega arith
+
+pub live_taken : (config : Config) (events : Record) → live config events ≤ taken config events
+live_taken config events = let a = live_behind config [] events in let z = nothing_live config in omega arith

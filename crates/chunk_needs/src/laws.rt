@@ -4,14 +4,14 @@ ghost use Rattle.chunk_pool.specs.Amounts.{chunks_for, enough};
 ghost use Rattle.cube_math.specs.Points.{PointValue};
 ghost use Rattle.leaf_counts.specs.Overfull.{overfull};
 ghost use Rattle.record_model.specs.Admissions.{admitted, admitted_points};
-ghost use Rattle.record_model.specs.Records.{Record, published};
+ghost use Rattle.record_model.specs.Records.{IsPrefix, Record, published};
 ghost use Rattle.cube_math.specs.declared.config.Config.{Config};
 ghost use Rattle.record_model.specs.declared.event.Event.{Event};
 ghost use Rattle.record_model.specs.declared.event.Event.TheVariants.{Admission, Look, Publication};
 ghost use Rattle.chunk_needs.specs.Leaves.{counts_of, is_leaf_of, leaves, number_in, split_leaves};
 ghost use Rattle.chunk_needs.specs.Needs.{leaf_chunks, live, more_chunks, need, taken};
-ghost use Rattle.chunk_needs.specs.Limits.{nodes_of};
-ghost use Rattle.chunk_needs.specs.Slots.{owned};
+ghost use Rattle.chunk_needs.specs.Limits.{IsWithin, nodes_of};
+ghost use Rattle.chunk_needs.specs.Slots.{granted, owned};
 
 /// A law: a look needs no chunk, and changes nothing of what is live.
 pub fn looks_need_nothing()
@@ -57,4 +57,35 @@ pub fn first_admission_needs_its_points()
 pub fn enough_chunks_never_run_out()
     ensures sum { (config : Config) (events : Record) (e : Event × ℕ) → taken config (events ++ e ∷ []) ≡ taken config events + need config events e }
     ensures most { (config : Config) (events : Record) → 7 ≤ config.cube.bits → taken config events ≤ enough config.cube.bits (admitted events) (nodes_of config (published events)) }
+{}
+
+/// A law: of the admitted points in the cube of a path, each is granted or owned there. An admission adds its points to
+/// what is granted at a leaf, and to what is owned at any other path; a publication and a look change neither.
+pub fn slots_are_granted_or_owned()
+    ensures all { (config : Config) (events : Record) (path : List ℕ) → granted config events path + owned config events path ≡ number_in config path (admitted_points events) }
+    ensures leaf { (config : Config) (events : Record) (input loader : ℕ) (points : List PointValue) (path : List ℕ) → is_leaf_of config (published events) path ≡ true
+        → (granted config (events ++ (Admission input points, loader) ∷ []) path ≡ granted config events path + number_in config path points)
+            × (owned config (events ++ (Admission input points, loader) ∷ []) path ≡ owned config events path) }
+    ensures elsewhere { (config : Config) (events : Record) (input loader : ℕ) (points : List PointValue) (path : List ℕ) → is_leaf_of config (published events) path ≡ false
+        → (granted config (events ++ (Admission input points, loader) ∷ []) path ≡ granted config events path)
+            × (owned config (events ++ (Admission input points, loader) ∷ []) path ≡ owned config events path + number_in config path points) }
+    ensures publication { (config : Config) (events : Record) (input loader : ℕ) (points : List PointValue) (path : List ℕ)
+        → (granted config (events ++ (Publication input points, loader) ∷ []) path ≡ granted config events path)
+            × (owned config (events ++ (Publication input points, loader) ∷ []) path ≡ owned config events path) }
+    ensures look { (config : Config) (events : Record) (pass : ℕ) (path : List ℕ)
+        → (granted config (events ++ (Look, pass) ∷ []) path ≡ granted config events path) × (owned config (events ++ (Look, pass) ∷ []) path ≡ owned config events path) }
+{}
+
+/// A law: no more chunks live than were ever taken, so that what is held besides is at most the difference.
+pub fn what_lives_was_taken()
+    ensures { (config : Config) (events : Record) → live config events ≤ taken config events }
+{}
+
+/// A law: with more points an octree has no fewer nodes; a record that keeps the limits keeps them at each of its beginnings,
+/// and with a look more; and one of no events keeps them.
+pub fn beginnings_keep_the_limits()
+    ensures nodes { (config : Config) (points more : List PointValue) → nodes_of config points ≤ nodes_of config (points ++ more) }
+    ensures beginning { (config : Config) (seen events : Record) → IsPrefix seen events → IsWithin config events → IsWithin config seen }
+    ensures look { (config : Config) (events : Record) (pass : ℕ) → IsWithin config events → IsWithin config (events ++ (Look, pass) ∷ []) }
+    ensures nothing { (config : Config) → 1 ≤ config.nodes → IsWithin config [] }
 {}

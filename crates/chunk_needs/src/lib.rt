@@ -5,6 +5,7 @@
 mod laws;
 
 pub use laws::{
-    admissions_need_slots, enough_chunks_never_run_out, first_admission_needs_its_points,
-    looks_need_nothing, publications_need_slots,
+    admissions_need_slots, beginnings_keep_the_limits, enough_chunks_never_run_out,
+    first_admission_needs_its_points, looks_need_nothing, publications_need_slots,
+    slots_are_granted_or_owned, what_lives_was_taken,
 };

@@ -14,5 +14,4 @@ pub mod Splits
 pub mod Opens
 pub mod Knowing
 pub mod Sent
-pub mod SweptSlots
 pub mod Worked

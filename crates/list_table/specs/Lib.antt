@@ -3,4 +3,3 @@ pub mod Ruled
 pub mod Tables
 pub mod GuestMoves
 pub mod OwnerMoves
-pub mod SweptLists

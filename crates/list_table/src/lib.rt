@@ -11,12 +11,10 @@ mod owning;
 mod rule;
 mod seats;
 mod shared;
-mod swept;
 #[cfg(test)]
 mod tests;
 mod views;
 
 pub use lists::SharedLists;
 pub use seats::{GuestSeat, OwnerSeat};
-pub use swept::swept_lists_stay;
 pub use views::{Ledger, Notes, View};

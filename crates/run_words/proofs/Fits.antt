@@ -6,7 +6,8 @@ use Rattle.std.specs.Option.{option_map_or}
 use Rattle.run_words.specs.Commands.{Text}
 use Rattle.run_words.specs.Forms.{fits}
 use Rattle.run_words.specs.Options.{options, optional}
-use Rattle.run_words.specs.Screens.{has_form, is_fit, first_unfit, value_of}
+use Rattle.clap_words.specs.Words.{value_of}
+use Rattle.run_words.specs.Screens.{has_form, is_fit, first_unfit}
 use Rattle.run_words.specs.declared.form.Form.TheVariants.{Number, CubePlace}
 use Rattle.run_words.specs.declared.option.OptionName.TheVariants as name
 use Rattle.run_words.proofs.Lists.{passes_at, wider}

@@ -7,7 +7,8 @@ use Rattle.run_words.specs.Commands.{Text}
 use Rattle.run_words.specs.Numbers.{natural, whole, is_numeral, is_number, pieces, piece}
 use Rattle.run_words.specs.Forms.{are_numbers, is_seed_and_count}
 use Rattle.run_words.specs.Options.{options}
-use Rattle.run_words.specs.Screens.{first_unfit, value_of}
+use Rattle.clap_words.specs.Words.{value_of}
+use Rattle.run_words.specs.Screens.{first_unfit}
 use Rattle.run_words.specs.Values.{pair_of, is_direction, IsBetween, HasRanges, job_of}
 use Rattle.run_words.specs.declared.command.CommandName.{CommandName}
 use Rattle.run_words.proofs.Fits.{fit_row}

@@ -1,3 +1,4 @@
+pub mod Taken
 pub mod Digits
 pub mod Minus
 pub mod Numerals

@@ -8,7 +8,8 @@ use Rattle.std.proofs.lemmas.Int.{ints}
 use Rattle.std.proofs.lemmas.Bool.Decides.{nat_tests}
 use Rattle.run_words.specs.Commands.{Text}
 use Rattle.run_words.specs.Numbers.{natural, whole, has_minus, is_digits, is_numeral, is_number}
-use Rattle.run_words.specs.Screens.{has_form, value_of}
+use Rattle.clap_words.specs.Words.{value_of}
+use Rattle.run_words.specs.Screens.{has_form}
 use Rattle.run_words.specs.Values.{number_or}
 use Rattle.run_words.specs.declared.form.Form.TheVariants.{Number}
 use Rattle.run_words.proofs.Lists.{both}

@@ -6,7 +6,8 @@ use Rattle.std.specs.Option.{MatchOption}
 use Rattle.std.specs.Borrow.{Bor}
 use Rattle.run_words.specs.Commands.{Text}
 use Rattle.run_words.specs.Options.{OptionRowValue, options, row_value}
-use Rattle.run_words.specs.Screens.{is_file, gives, value_of, takes, is_known, stands_once, is_there, is_fit, first_unfit}
+use Rattle.clap_words.specs.Words.{is_file, gives, value_of}
+use Rattle.run_words.specs.Screens.{takes, is_known, stands_once, is_there, is_fit, first_unfit}
 use Rattle.run_words.specs.declared.command.CommandName.{CommandName}
 use Rattle.run_words.specs.declared.option.OptionRow.{OptionRow}
 use Rattle.run_words.proofs.Mapped.{list_any-map, list_all-map, find-map}

@@ -9,7 +9,7 @@ use Rattle.std.specs.Cmp.Lexicographic.{pointwise, told_text}
 use Rattle.std.proofs.Math.Seq.{take-append_seam}
 use Rattle.std.proofs.lemmas.List.{take-append-drop}
 use Rattle.std.proofs.lemmas.List.Prefix.{front_rest}
-use Rattle.run_words.specs.Screens.{option_start, gives}
+use Rattle.clap_words.specs.Words.{option_start, gives}
 
 -- a text that is made so begins so
 pub starts : (s p rest : List ℕ) → s ≡ p ++ rest → starts_with nat_eq s p ≡ true

@@ -19,13 +19,16 @@ shows_frames Replay = true
 shows_frames Live = true
 shows_frames _ = false
 
+-- the first refusal of the values of words that suit a command: one that is not of its form, or too many pixels
+abbrev pub value_refusal : CommandName → List Text → Option WordsFault
+value_refusal command words = option_map_or (λ name. Some (Value name)) (first_unfit words)
+    (if shows_frames command && nat_lt 50000000 (pixels (job_of command words)) then Some (Pixels (pixels (job_of command words))) else None)
+
 -- the first refusal that applies to the words after a command, if one does
 abbrev pub refusal : CommandName → List Text → Option WordsFault
 refusal command words = option_map_or (λ at. Some (Word (at + 2)))
     (position (λ word. is_stray word) words)
-    (if suits command words then option_map_or (λ name. Some (Value name)) (first_unfit words)
-    (if shows_frames command && nat_lt 50000000 (pixels (job_of command words)) then Some (Pixels (pixels (job_of command words))) else None)
-    else Some Options)
+    (if suits command words then value_refusal command words else Some Options)
 
 -- the job of words, or why they have none
 abbrev pub job : List Text → Result JobValue WordsFault

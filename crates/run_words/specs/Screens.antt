@@ -1,8 +1,9 @@
 -- Which words are files and options, and which of them a command takes.
-use Rattle.std.specs.Prelude.{◌+◌, List, ◌++◌, Bool, true, false, ◌&&◌, ◌||◌, not, ◌==◌, nat_eq, nat_lt, nat_le, Option, is_some, option_map, length, drop, slice_index, find, position, filter, count_by, codes}
+use Rattle.std.specs.Prelude.{List, Bool, true, false, ◌&&◌, ◌||◌, not, ◌==◌, nat_eq, nat_lt, nat_le, Option, is_some, option_map, drop, slice_index, find, position, filter, map, count_by, codes}
 use Rattle.std.specs.List.{list_any, list_all, starts_with}
 use Rattle.std.specs.Option.{option_map_or}
 use Rattle.std.specs.Char.{is_ascii_lowercase}
+use Rattle.clap_words.specs.Words.{is_file, gives, value_of}
 use Rattle.run_words.specs.Commands.{Text, is_same}
 use Rattle.run_words.specs.Forms.{fits}
 use Rattle.run_words.specs.Options.{OptionRowValue, options}
@@ -10,10 +11,6 @@ use Rattle.run_words.specs.declared.command.CommandName.{CommandName}
 use Rattle.run_words.specs.declared.command.CommandName.TheVariants.{Demo, Live}
 use Rattle.run_words.specs.declared.form.Form.{Form}
 use Rattle.run_words.specs.declared.option.OptionName.{OptionName}
-
--- a file is named by a word that is not empty and does not begin with `-`
-abbrev pub is_file : Text → Bool
-is_file word = not (length word == 0) && not (slice_index word 0 == 45)
 
 -- lower-case letters, at least one, and then `=`
 abbrev pub begins_with_name : Text → Bool
@@ -28,18 +25,6 @@ is_option word = starts_with nat_eq word (codes "--") && begins_with_name (drop 
 abbrev pub is_stray : Text → Bool
 is_stray word = not (is_file word || is_option word)
 
--- what an option of this name begins with
-abbrev pub option_start : Text → Text
-option_start name = codes "--" ++ name ++ codes "="
-
--- whether a word is the option of this name
-abbrev pub gives : Text → Text → Bool
-gives name word = starts_with nat_eq word (option_start name)
-
--- the value of the first option of this name, if there is one
-abbrev pub value_of : Text → List Text → Option Text
-value_of name words = option_map (λ word. drop (length name + 3) word) (find (λ word. gives name word) words)
-
 -- whether a command takes an option
 abbrev pub takes : OptionRowValue → CommandName → Bool
 takes row command = list_any (λ taking. is_same taking command) row.commands
@@ -47,6 +32,14 @@ takes row command = list_any (λ taking. is_same taking command) row.commands
 -- a file, or an option that the command takes
 abbrev pub is_known : CommandName → Text → Bool
 is_known command word = is_file word || list_any (λ row. takes row command && gives row.word word) options
+
+-- the words of these options that the command takes
+abbrev pub names_in : CommandName → List OptionRowValue → List Text
+names_in command rows = map (λ row. row.word) (filter (λ row. takes row command) rows)
+
+-- the words of all options that the command takes
+abbrev pub names_of : CommandName → List Text
+names_of command = names_in command options
 
 -- whether an option stands at most once
 abbrev pub stands_once : List Text → OptionRowValue → Bool
@@ -61,10 +54,6 @@ abbrev pub files_suit : CommandName → Bool → Bool → Bool
 files_suit Demo files generated = not files
 files_suit Live files generated = not files && generated || files && not generated
 files_suit _ files generated = files
-
--- the files among the words
-abbrev pub files_of : List Text → List Text
-files_of words = filter (λ word. is_file word) words
 
 -- whether the options and files suit the command
 abbrev pub suits : CommandName → List Text → Bool

@@ -6,7 +6,7 @@ use Rattle.std.specs.Str.{bytes_eq}
 use Rattle.cube_math.specs.Cubes.{CubeValue}
 use Rattle.run_words.specs.Commands.{Text}
 use Rattle.run_words.specs.Numbers.{natural, whole, pieces, piece}
-use Rattle.run_words.specs.Screens.{value_of, files_of}
+use Rattle.clap_words.specs.Words.{value_of, files_of}
 use Rattle.run_words.specs.declared.command.CommandName.{CommandName}
 
 -- a job as contracts see it: its command, its files, and a value for each option

@@ -8,6 +8,7 @@ mod job;
 mod number;
 mod option;
 mod screen;
+mod table;
 mod value;
 mod words;
 

@@ -1,12 +1,16 @@
-ghost use Rattle.std.specs.Prelude.{◌≡◌, ◌+◌, ◌<◌, IfSome, not, map, position, find, drop, length, ◌&&◌, is_some, option_map, string_bytes, MatchOption, true, false};
+ghost use Rattle.std.specs.Prelude.{◌≡◌, ◌+◌, ◌<◌, IfSome, IfOk, not, map, position, find, drop, length, ◌&&◌, is_some, option_map, string_bytes, MatchOption, true, false};
 ghost use Rattle.std.specs.Char.{is_ascii_lowercase};
 ghost use Rattle.std.specs.List.{list_any, list_all};
 ghost use Rattle.run_words.specs.Options.{row_value};
-ghost use Rattle.run_words.specs.Screens.{is_file, begins_with_name, is_option, is_stray, gives, value_of, takes, is_known, stands_once, is_there, files_suit, suits, is_fit, first_unfit};
+ghost use Rattle.clap_words.specs.Words.{is_file, is_name, gives, value_of};
+ghost use Rattle.run_words.specs.Screens.{begins_with_name, is_option, is_stray, takes, names_in, names_of, is_known, stands_once, is_there, files_suit, suits, is_fit, first_unfit};
 
 use crate::command::{CommandName, is_same};
 use crate::form::fits;
-use crate::option::{OptionName, OptionRow, options};
+use crate::option::{OptionName, OptionRow};
+use crate::table::options;
+use clap_words::Given;
+use std::alloc::{AllocError, Global};
 
 /// Whether a word names a file: it is not empty and does not begin with `-`.
 pub fn is_file(word: &str) -> bool
@@ -93,6 +97,30 @@ fn takes(row: &OptionRow, command: CommandName) -> bool
     row.commands.iter().any(|taking| is_same(*taking, command))
 }
 
+/// The words of the options that a command takes.
+pub(crate) fn names_of(alloc: Global, command: CommandName) -> Result<Vec<&'static str>, AllocError>
+    ensures { IfOk result (λ names. map (λ name. name.now) names.items ≡ names_of command) }
+{
+    names_in(alloc, options(), command)
+}
+
+/// The words of these options that a command takes.
+fn names_in(
+    alloc: Global,
+    rows: &'static [OptionRow],
+    command: CommandName,
+) -> Result<Vec<&'static str>, AllocError>
+    ensures { IfOk result (λ names. map (λ name. name.now) names.items ≡ names_in command (map row_value rows.now)) }
+{
+    let mut names = Vec::new(alloc);
+    for row in rows {
+        if takes(row, command) {
+            names.push(row.word)?;
+        }
+    }
+    Ok(names)
+}
+
 /// Whether a word is a file or an option that the command takes.
 fn is_known(command: CommandName, word: &str) -> bool
     ensures { result ≡ is_known command word.now }
@@ -174,25 +202,32 @@ fn has_file(words: &[String]) -> bool
 }
 
 /// Whether an option's value is of its form, if the option is there.
-fn is_fit(words: &[String], row: &OptionRow) -> bool
-    ensures { result ≡ is_fit (map string_bytes words.now) (row_value row.now) }
+fn is_fit(given: &Given<'_>, row: &OptionRow) -> bool
+    requires { is_name row.now.word.now ≡ true }
+    ensures { result ≡ is_fit (map string_bytes given.now.words.now) (row_value row.now) }
 {
-    match value_of(words, row.word) {
+    match given.value(row.word) {
         Some(text) => fits(row.form, text),
         None => true,
     }
 }
 
 /// The first option whose value is not of its form.
-pub(crate) fn first_unfit(words: &[String]) -> Option<OptionName>
-    ensures { result ≡ first_unfit (map string_bytes words.now) }
+pub(crate) fn first_unfit(given: &Given<'_>) -> Option<OptionName>
+    ensures { result ≡ first_unfit (map string_bytes given.now.words.now) }
 {
-    Some(find_unfit(options(), words)?.name)
+    Some(find_unfit(options(), given)?.name)
 }
 
 /// The first of these options whose value is not of its form.
-fn find_unfit<'a>(rows: &'a [OptionRow], words: &[String]) -> Option<&'a OptionRow>
-    ensures { option_map (λ row. row.now) result ≡ find (λ row. not (is_fit (map string_bytes words.now) (row_value row))) rows.now }
+fn find_unfit<'a>(rows: &'a [OptionRow], given: &Given<'_>) -> Option<&'a OptionRow>
+    requires { list_all (λ row. is_name row.word.now) rows.now ≡ true }
+    ensures { option_map (λ row. row.now) result ≡ find (λ row. not (is_fit (map string_bytes given.now.words.now) (row_value row))) rows.now }
 {
-    rows.iter().find(|row| !is_fit(words, row))
+    for row in rows {
+        if !is_fit(given, row) {
+            return Some(row);
+        }
+    }
+    None
 }

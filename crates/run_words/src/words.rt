@@ -1,13 +1,14 @@
 ghost use Rattle.std.specs.Prelude.{◌≡◌, ◌≤◌, ◌+◌, ◌*◌, ◌⊎◌, IfOk, IfErr, None, Some, Ok, Err, map, string_bytes};
-ghost use Rattle.run_words.specs.Jobs.{job, refusal, pixels, shows_frames};
+ghost use Rattle.run_words.specs.Jobs.{job, refusal, value_refusal, pixels, shows_frames};
 ghost use Rattle.run_words.specs.Values.{HasRanges, job_of};
 ghost use Rattle.run_words.specs.declared.words.WordsFault.TheVariants.{Memory};
 
 use crate::command::CommandName;
 use crate::job::Job;
 use crate::option::OptionName;
-use crate::screen::{first_stray, first_unfit, suits};
+use crate::screen::{first_stray, first_unfit, names_of, suits};
 use crate::value::job_of;
+use clap_words::Given;
 use std::alloc::{AllocError, Global};
 
 /// Why words are no job, tested in this order.
@@ -62,10 +63,21 @@ fn read_rest(alloc: Global, command: CommandName, words: &[String]) -> Result<Jo
     if !suits(command, words) {
         return Err(WordsFault::Options);
     }
-    if let Some(name) = first_unfit(words) {
+    let names = names_of(alloc, command)?;
+    let given = Given::read(alloc, names.as_slice(), words)?;
+    read_values(alloc, command, &given)
+}
+
+/// The job of a command and of words that suit it, or the first refusal of their values.
+fn read_values(alloc: Global, command: CommandName, given: &Given<'_>) -> Result<Job, WordsFault>
+    ensures accepted { IfOk result (λ j. (value_refusal command (map string_bytes given.now.words.now) ≡ None) × (j ≡ job_of command (map string_bytes given.now.words.now))) }
+    ensures refused { IfErr result (λ e. (e ≡ Memory) ⊎ (value_refusal command (map string_bytes given.now.words.now) ≡ Some e)) }
+    ensures ranges { IfOk result (λ j. HasRanges j) }
+{
+    if let Some(name) = first_unfit(given) {
         return Err(WordsFault::Value { name });
     }
-    let job = job_of(alloc, command, words)?;
+    let job = job_of(alloc, command, given)?;
     let n = pixels(&job);
     if shows_frames(command) && n > 50_000_000 {
         return Err(WordsFault::Pixels { n });

@@ -1,7 +1,8 @@
 use Rattle.std.proofs.Common.{◌≡◌, ◌∙◌, sym, ap, refl, map, ◌&&◌}
 use Rattle.std.specs.Prelude.{is_some, string_bytes, codes}
 use Rattle.std.specs.List.{list_any}
-use Rattle.run_words.specs.Screens.{is_file, value_of, files_suit}
+use Rattle.clap_words.specs.Words.{is_file, value_of}
+use Rattle.run_words.specs.Screens.{files_suit}
 use Rattle.run_words.proofs.Mapped.{list_any-map}
 use Rattle.run_words.proofs.Screening.{all_suit, is_some-option_map}
 use Rattle.run_words.proofs.screen.suits.Goals as goal

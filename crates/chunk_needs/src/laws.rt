@@ -65,13 +65,13 @@ pub fn slots_are_granted_or_owned()
     ensures all { (config : Config) (events : Record) (path : List ℕ) → granted config events path + owned config events path ≡ number_in config path (admitted_points events) }
     ensures leaf { (config : Config) (events : Record) (input loader : ℕ) (points : List PointValue) (path : List ℕ) → is_leaf_of config (published events) path ≡ true
         → (granted config (events ++ (Admission input points, loader) ∷ []) path ≡ granted config events path + number_in config path points)
-            × (owned config (events ++ (Admission input points, loader) ∷ []) path ≡ owned config events path) }
+        × (owned config (events ++ (Admission input points, loader) ∷ []) path ≡ owned config events path) }
     ensures elsewhere { (config : Config) (events : Record) (input loader : ℕ) (points : List PointValue) (path : List ℕ) → is_leaf_of config (published events) path ≡ false
         → (granted config (events ++ (Admission input points, loader) ∷ []) path ≡ granted config events path)
-            × (owned config (events ++ (Admission input points, loader) ∷ []) path ≡ owned config events path + number_in config path points) }
+        × (owned config (events ++ (Admission input points, loader) ∷ []) path ≡ owned config events path + number_in config path points) }
     ensures publication { (config : Config) (events : Record) (input loader : ℕ) (points : List PointValue) (path : List ℕ)
         → (granted config (events ++ (Publication input points, loader) ∷ []) path ≡ granted config events path)
-            × (owned config (events ++ (Publication input points, loader) ∷ []) path ≡ owned config events path) }
+        × (owned config (events ++ (Publication input points, loader) ∷ []) path ≡ owned config events path) }
     ensures look { (config : Config) (events : Record) (pass : ℕ) (path : List ℕ)
         → (granted config (events ++ (Look, pass) ∷ []) path ≡ granted config events path) × (owned config (events ++ (Look, pass) ∷ []) path ≡ owned config events path) }
 {}

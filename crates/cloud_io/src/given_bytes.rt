@@ -27,3 +27,6 @@ impl GivenBytes {
         ensures { self.new.bytes ≡ self.old.bytes ++ _piece.now }
     {}
 }
+
+// It owns nothing.
+unsafe impl Send for GivenBytes {}

@@ -6,6 +6,9 @@ person can go on from there. The camera is chosen by `camera_fit.py` from the le
 """
 
 import argparse
+import contextlib
+import functools
+import operator
 import os
 import re
 import shlex
@@ -23,6 +26,7 @@ SIDES = ("above", "north", "south", "east", "west", "corner")  # of a page of al
 USUAL_DECIMALS = 3  # what the program takes where it is not told
 LEAST_EXTENT = 4096  # units: a text that reaches less far is taken with more decimals
 DARK = 32  # a pixel is lit from this red, green or blue on
+NO_COLOURS = "the file has no colours"
 
 
 class Refused(Exception):
@@ -109,7 +113,8 @@ class Scan:
         kinds = [f"LAS 1.{it.minor} format {it.format}" for it in self.headers[:1]]
         kinds += ["text"] if len(self.headers) < len(self.files) else []
         files = f" ({len(self.files)} files)" if len(self.files) > 1 else ""
-        size = " x ".join(f"{it * scale:,.1f}" for it, scale in zip(self.extents(), self.scales))
+        metres = [it * scale for it, scale in zip(self.extents(), self.scales)]
+        size = " x ".join(f"{it:,.{1 if max(metres) >= 10 else 3}f}" for it in metres)
         differ = ["scales differ"] if len(set(self.scales)) > 1 else []
         return ", ".join([" and ".join(kinds) + files, f"{self.bounds['points'][0]:,} points", f"{size} m", *differ, self.colours()])
 
@@ -158,13 +163,11 @@ def take_low_bytes(scan):
         scan.options.append("--rgb=low")
 
 
-def lit(pixels, least):
-    """How many pixels have a red, green or blue of at least so much."""
+def lit(pixels, least, join=operator.or_):
+    """How many pixels have a red, green or blue of at least so much, or with `operator.and_` all three."""
     flags = pixels.translate(bytes(it >= least for it in range(256)))
-    any_of = 0
-    for channel in range(3):
-        any_of |= int.from_bytes(flags[channel::3], "big")
-    return any_of.to_bytes(len(pixels) // 3, "big").count(1)
+    channels = (int.from_bytes(flags[channel::3], "big") for channel in range(3))
+    return functools.reduce(join, channels).to_bytes(len(pixels) // 3, "big").count(1)
 
 
 def pixels_of(ppm):
@@ -212,22 +215,32 @@ def fine_listing(scan):
         leaf = min(50_000, 4 * leaf)
 
 
-def is_dark(pictures):
-    """Whether next to nothing of what is drawn can be seen."""
+def why_unseen(pictures, scan):
+    """Why no shapes are seen in the pictures although something is drawn there, or None where some are."""
     drawn, seen = (sum(lit(pixels_of(it), least) for it in pictures) for least in (1, DARK))
-    return 10 * seen <= drawn
+    white = sum(lit(pixels_of(it), 255, operator.and_) for it in pictures)
+    coloured = scan.colours() != "no colours"
+    if 10 * seen <= drawn:
+        none = f"{NO_COLOURS}, and next to no intensity in the high byte"
+        return f"nothing is lit: {'the colours of the file are nearly black' if coloured else none}"
+    if 10 * (drawn - white) <= drawn:
+        return f"all is white: {'the colours of the file are' if coloured else NO_COLOURS}"
+    return None
+
+
+def have_intensities(scan):
+    """Whether the points differ in intensity."""
+    try:
+        low, high = edges_of_all([values_of(it, "intensity") for it in scan.files])
+    except NotRead:
+        return False
+    return low < high
 
 
 def is_empty(pictures, scan):
     """Whether many points take up next to nothing of the pictures."""
     drawn = sum(lit(pixels_of(it), 1) for it in pictures)
     return scan.bounds["points"][0] >= 10_000 and 100 * drawn < sum(len(pixels_of(it)) // 3 for it in pictures)
-
-
-def why_dark(scan):
-    if scan.colours() == "no colours":
-        return "the file has no colours, and next to no intensity in the high byte"
-    return "the colours of the file are nearly black"
 
 
 def stem(out):
@@ -237,6 +250,8 @@ def stem(out):
 def tinted(scan, by, out):
     """The scan by copies beside the picture, with colours by height or intensity."""
     low, high = edges_of_all([values_of(it, by) for it in scan.files])
+    if low == high:
+        print(f"note: nearly all points have the same {by}, {low}")
     copies = []
     for number, name in enumerate(scan.files, 1):
         ending = ".las" if is_las(name) else ".xyz"
@@ -278,8 +293,10 @@ def look(given):
     view = Look(scan, sides, 512 if given.all else 1024, given.drop)
     if not given.print:
         pictures = view.draw()
-        if is_dark(pictures.values()) and not given.tint:
-            print(f"nothing is lit: {why_dark(scan)}. So it is drawn as by --tint height; --tint intensity is the other")
+        why = None if given.tint else why_unseen(pictures.values(), scan)
+        if why:
+            other = "; --tint intensity is the other" if have_intensities(scan) else ""
+            print(f"{why}. So it is drawn as by --tint height{other}")
             tinted(scan, "height", out)
             pictures = view.draw()
         if is_empty(pictures.values(), scan):
@@ -301,10 +318,10 @@ def write(out, ppm):
 
 
 def share(word):
-    value = float(word)
-    if not 0 <= value < 0.5:
-        raise ValueError
-    return value
+    with contextlib.suppress(ValueError):
+        if 0 <= float(word) < 0.5:
+            return float(word)
+    raise argparse.ArgumentTypeError("takes a part of the points, from 0 to below 0.5, as 0.001")
 
 
 def words_of(words):
@@ -315,7 +332,7 @@ def words_of(words):
     sides.add_argument("--all", action="store_true", help="one page of six views")
     asked.add_argument("--tint", choices=("height", "intensity"), help="draw a copy that is coloured so")
     asked.add_argument("--decimals", type=int, choices=range(10), metavar="D", help="decimals of a text's coordinates, 0 to 9")
-    asked.add_argument("--drop", type=share, default=0.0, metavar="SHARE", help="the part of all points that may be left out at each edge")
+    asked.add_argument("--drop", type=share, default=0.0, metavar="SHARE", help="the part of all points that may be left out at each edge, as 0.001")
     asked.add_argument("--out", metavar="X.png", help="the picture (default: named after the scan and the side)")
     asked.add_argument("--print", action="store_true", help="print the command alone, and draw nothing")
     asked.add_argument("--program", default=f"{TOP}/simlod", help="the program (default: the launcher at the top)")

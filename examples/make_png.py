@@ -29,6 +29,9 @@ def png_of(ppm):
 
 
 def main(words):
+    if words in (["-h"], ["--help"]):
+        print(__doc__)
+        return
     if len(words) != 2:
         sys.exit(__doc__)
     try:

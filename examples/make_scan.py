@@ -13,6 +13,7 @@ The same number of points and the same seed give the same file.
 import argparse
 import math
 import random
+import sys
 
 SIDE = 200.0  # metres along x and along y
 CELL = 4.0  # side of the cells in which nearby objects are looked up
@@ -463,12 +464,15 @@ def write_scan(name, points, seed):
 def main():
     words = argparse.ArgumentParser(description="Makes an XYZ file of a village, as a scanner on an aeroplane sees it.")
     words.add_argument("output", help="name of the file to write")
-    words.add_argument("--points", type=int, default=200_000, help="number of points (default 200000)")
+    words.add_argument("--points", type=int, default=200_000, help="number of points, at least 1 (default 200000)")
     words.add_argument("--seed", type=int, default=1, help="seed of all chance (default 1)")
     given = words.parse_args()
     if given.points < 1:
         words.error("--points is at least 1")
-    write_scan(given.output, given.points, given.seed)
+    try:
+        write_scan(given.output, given.points, given.seed)
+    except OSError as why:
+        sys.exit(f"{why.filename or given.output}: {why.strerror}")
 
 
 if __name__ == "__main__":

@@ -267,13 +267,16 @@ def write_tile(name, points, layout):
 def main(words):
     asked = argparse.ArgumentParser(description="Makes a LAS file of a survey's tile.")
     asked.add_argument("out", help="the file to write")
-    asked.add_argument("--points", type=int, default=5_000_000, help="how many points (default 5000000)")
+    asked.add_argument("--points", type=int, default=5_000_000, help="how many points, 0 to 4294967295 (default 5000000)")
     formats = "1.2 with point format 3, or 1.4 with 7 (default 1.2)"
     asked.add_argument("--version", choices=("1.2", "1.4"), default="1.2", help=formats)
     given = asked.parse_args(words)
     if not 0 <= given.points < 2**32:
         asked.error("--points takes 0 to 4294967295")
-    write_tile(given.out, given.points, Layout(given.version))
+    try:
+        write_tile(given.out, given.points, Layout(given.version))
+    except OSError as why:
+        sys.exit(f"{why.filename or given.out}: {why.strerror}")
 
 
 if __name__ == "__main__":

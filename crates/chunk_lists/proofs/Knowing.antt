@@ -1,5 +1,6 @@
 -- What the owner of lists knows, by its book.
-use Rattle.std.proofs.Common.{◌≡◌, ℕ, zero, suc, ◌+◌, ◌*◌, ◌<◌, ⊎_elim, true, false, not, List, [], ◌∷◌, length, set, length-set, replicate, get_or, Contains, refl, sym, ap, ◌∙◌, subst, arith}
+use Rattle.std.proofs.Common.{◌≡◌, ℕ, zero, suc, ◌+◌, ◌*◌, ◌<◌, inl, inr, ⊎_elim, Bool, true, false, cond, not, List, [], ◌∷◌, ◌++◌, length, set, length-set, replicate, get_or, Contains, refl, sym, ap, ◌∙◌, subst, arith}
+use Rattle.std.specs.Prelude.{Option, Some, None}
 use Rattle.std.proofs.lemmas.Option.{same_Some, none-some}
 use Rattle.list_machine.specs.Facts.{IsAt, Chain, chain_of, HasChunk, Stands, is_shut, list_of}
 use Rattle.list_machine.specs.Steps.{IsSweptPlace, opening_leaf, is_open_at, open_facts}
@@ -11,20 +12,22 @@ use Rattle.list_machine.specs.declared.views.Stage.TheVariants.{Open as Unshut, 
 use Rattle.list_machine.specs.declared.views.Leaf.{Leaf}
 use Rattle.list_machine.proofs.Lists.{at_below, at_same}
 use Rattle.list_machine.proofs.Openings.{nothing_granted}
-use Rattle.list_words.specs.Store.{Row, row_in, found_in, chunks_of, grant_rows, more_granted}
+use Rattle.list_words.specs.Store.{Row, IsFoundAt, row_in, chunks_of, grant_rows, more_granted}
+use Rattle.list_words.specs.Store.IsFoundAt.{as_placed, by_mark}
+use Rattle.list_words.proofs.Places.{slice_get-joined}
 use Rattle.list_words.specs.declared.leaf_lists.Phase.{Phase}
 use Rattle.list_words.specs.declared.leaf_lists.Phase.TheVariants.{Fresh, Open, Shut}
-use Rattle.list_book.specs.Books.{BookRow, BookValue, book_row, fresh_row, fresh_book}
-use Rattle.list_table.specs.Ledgers.{Knows, IsKept, no_notes, leaf_of, notes_of, opening_ledger}
+use Rattle.list_book.specs.Books.{BookRow, BookValue, book_row, chunk_in, row_chain, fresh_row, fresh_book}
+use Rattle.list_table.specs.Ledgers.{Knows, IsKept, IsNoted, no_notes, leaf_of, notes_of, opening_ledger, shown}
 use Rattle.list_table.specs.declared.views.Notes.{Notes}
 use Rattle.list_table.specs.declared.views.Ledger.{Ledger}
 use Rattle.list_table.proofs.Clears.{kept_at}
-use Rattle.list_table.proofs.Frames.{leaf_at}
+use Rattle.list_table.proofs.Frames.{leaf_at, notes_at}
 use Rattle.list_table.proofs.Opens.{many}
-use Rattle.chunk_lists.specs.Keepers.{rows_of, IsDone, IsInPhase, IsTiedRow, AreTied}
+use Rattle.chunk_lists.specs.Keepers.{claims_at, rows_of, IsDone, IsInPhase, IsTiedRow, AreTied}
 use Rattle.chunk_lists.proofs.Chunks.{in_row}
-use Rattle.chunk_lists.proofs.Marking.{all_found}
-use Rattle.chunk_lists.proofs.Ties.{row_is, phase_is, open_below, open_phase}
+use Rattle.chunk_lists.proofs.Marking.{item_noted}
+use Rattle.chunk_lists.proofs.Ties.{row_is, phase_is, open_below, open_phase, shut_below}
 
 -- a list that the owner knows to be shut has that phase
 shut_phase : (r : BookRow) (a : Leaf) (s : Notes) → IsTiedRow r a s → is_shut a.stage ≡ true → r.phase ≡ Shut
@@ -33,6 +36,13 @@ shut_phase r a s one e = by r.phase refl one.phase where
   by Fresh is x = let no : false ≡ true = sym (ap (λ (b : Leaf). is_shut b.stage) x.0) ∙ e in absurd (cc)
   by Open is x = let no : false ≡ true = sym (ap is_shut x.0) ∙ e in absurd (cc)
   by Shut is x = is
+
+-- the place of a chunk in one of the chains of a list
+place_in : (r : BookRow) (i c : ℕ) → IsAt (r.claimed ++ r.owned) i c → (owned : Bool) × (q : ℕ) × IsAt (row_chain owned r) q c × (i ≡ cond owned (length r.claimed) 0 + q)
+place_in r i c at = elim (slice_get-joined r.claimed r.owned i c at) [
+  | inl first ↦ let e : i ≡ 0 + i = omega arith in (false, i, first, e)
+  | inr second ↦ (true, second.0, second.2, second.1)
+]
 
 module _ (lists chunks : ℕ) (g : Ledger) (b : BookValue) (t : AreTied lists chunks g b) where
   -- the list with this leaf
@@ -51,18 +61,53 @@ module _ (lists chunks : ℕ) (g : Ledger) (b : BookValue) (t : AreTied lists ch
   claimed_then l r c a at here = let x = leaf_is l a at in
       subst (λ (w : Row). IsAt w.claimed r c) (sym (row_is lists chunks g b t l)) (subst (λ (cs : List ℕ). IsAt cs r c) (ap (λ (z : Leaf). z.claimed) x.1 ∙ (t.each l x.0).claimed) here)
 
+  done_now : (l : ℕ) → (row_in (rows_of b.rows g.notes) l).phase ≡ Shut → (l < lists) × IsDone (book_row b l) (leaf_of g l) (notes_of g l)
+  done_now l shut =
+      let phase : (book_row b l).phase ≡ Shut = phase_is lists chunks g b t l Shut shut in
+      let low : l < lists = shut_below lists chunks g b t l phase in
+      (low, subst (λ (p : Phase). IsInPhase p (book_row b l) (leaf_of g l) (notes_of g l)) phase (t.each l low).phase)
+
   pub found_now : IsKept g → ((o w d i y z : ℕ) → Knows g.owner.facts (Item o d i y) → Knows g.owner.facts (Item w d i z) → y ≡ z) → ((o w d i y : ℕ) → Knows g.owner.facts (Item o d i y) → Knows g.owner.facts (Empty w d i) → ⊥)
       → ((l c k x p f m : ℕ) (a : Leaf) → Knows g.owner.facts (Item l c k x) → IsAt g.owner.book.leaves l a → a.stage ≡ Swept p f m → (y : Chain) × (r : ℕ) × IsAt (chain_of a y) r c × (k < 256) × IsSweptPlace a f y (256 * r + k))
       → (l c k x : ℕ) (a : Leaf) → Knows g.owner.facts (Item l c k x) → IsAt g.owner.book.leaves l a → Stands a.stage → (row_in (rows_of b.rows g.notes) l).phase ≡ Shut
-      → Contains (found_in (row_in (rows_of b.rows g.notes) l)) x
+      → IsFoundAt (row_in (rows_of b.rows g.notes) l) c k x
   found_now kept one none swept l c k x a item at stands shut =
       let y = leaf_is l a at in
+      let row = t.each l y.0 in
       let leaf = leaf_at g lists l t.leaves y.0 in
-      let phase : (book_row b l).phase ≡ Shut = ap (λ (r : Row). r.phase) (sym (row_is lists chunks g b t l)) ∙ shut in
-      let done : IsDone (book_row b l) (leaf_of g l) (notes_of g l) = subst (λ (p : Phase). IsInPhase p (book_row b l) (leaf_of g l) (notes_of g l)) phase (t.each l y.0).phase in
-      subst (λ (r : Row). Contains (found_in r) x) (sym (row_is lists chunks g b t l)) (⊎_elim
-      (λ z. all_found g l z.0 z.1 (z.1 + (leaf_of g l).used) lists c k x (leaf_of g l) (notes_of g l) refl refl z.2 (omega arith) kept t.leaves y.0 one none (swept l c k x z.0 z.1 (z.1 + (leaf_of g l).used) (leaf_of g l) item leaf z.2) item)
-      (λ z. absurd (subst Stands (ap (λ (e : Leaf). e.stage) y.1 ∙ z.2) stands)) done)
+      subst (λ (r : Row). IsFoundAt r c k x) (sym (row_is lists chunks g b t l)) (⊎_elim
+      (λ z. ⊎_elim
+      (λ n. by_mark n.0 (subst (λ (cs : List ℕ). IsAt cs n.0 c) row.claimed n.1) n.2)
+      (λ n. as_placed n.0 (subst (λ (cs : List ℕ). IsAt cs n.0 c) row.owned n.1) n.2)
+      (item_noted g l z.0 z.1 (z.1 + (leaf_of g l).used) lists c k x (leaf_of g l) (notes_of g l) refl refl z.2 (omega arith) kept t.leaves y.0 one none (swept l c k x z.0 z.1 (z.1 + (leaf_of g l).used) (leaf_of g l) item leaf z.2) item))
+      (λ z. absurd (subst Stands (ap (λ (e : Leaf). e.stage) y.1 ∙ z.2) stands)) (done_now l shut).1)
+
+  -- there are as many marks as the shut found claims
+  pub claims_now : IsKept g → (l : ℕ) → (row_in (rows_of b.rows g.notes) l).phase ≡ Shut → length (row_in (rows_of b.rows g.notes) l).marked ≡ claims_at (leaf_of g l).stage
+  claims_now kept l shut =
+      let d = done_now l shut in
+      ap (λ (r : Row). length r.marked) (row_is lists chunks g b t l) ∙ ⊎_elim
+      (λ z.
+      let noted : IsNoted g.owner.facts l (leaf_of g l) (notes_of g l) (Swept z.0 z.1 (z.1 + (leaf_of g l).used)) =
+      subst (IsNoted g.owner.facts l (leaf_of g l) (notes_of g l)) z.2 (kept.noted l (leaf_of g l) (notes_of g l) (leaf_at g lists l t.leaves d.0) (notes_at g lists l kept t.leaves d.0)) in
+      noted.1.all (omega arith) ∙ ap claims_at (sym z.2))
+      (λ z. ap (λ (s : Notes). length s.marked) z.5 ∙ ap claims_at (sym z.2)) d.1
+
+  pub once_now : ((owned w : Bool) (l h r q c : ℕ) → chunk_in b.rows owned l r ≡ Some c → chunk_in b.rows w h q ≡ Some c → (owned ≡ w) × (l ≡ h) × (r ≡ q))
+      → (l h i j c : ℕ) → IsAt (chunks_of (row_in (rows_of b.rows g.notes) l)) i c → IsAt (chunks_of (row_in (rows_of b.rows g.notes) h)) j c → (l ≡ h) × (i ≡ j)
+  once_now once l h i j c at also =
+      let p = place_in (book_row b l) i c (subst (λ (r : Row). IsAt (chunks_of r) i c) (row_is lists chunks g b t l) at) in
+      let q = place_in (book_row b h) j c (subst (λ (r : Row). IsAt (chunks_of r) j c) (row_is lists chunks g b t h) also) in
+      let e = once p.0 q.0 l h p.1 q.1 c p.2 q.2 in
+      (e.1, p.3 ∙ ((λ k. cond (e.0 k) (length (book_row b (e.1 k)).claimed) 0 + e.2 k) ∙ sym q.3))
+
+-- of one slot one thing is known
+pub slots_one : (g : Ledger) → ((o w d i y z : ℕ) → Knows g.owner.facts (Item o d i y) → Knows g.owner.facts (Item w d i z) → y ≡ z) → ((o w d i y : ℕ) → Knows g.owner.facts (Item o d i y) → Knows g.owner.facts (Empty w d i) → ⊥)
+    → (l c k : ℕ) (y z : Option ℕ) → Knows g.owner.facts (shown l c k y) → Knows g.owner.facts (shown l c k z) → y ≡ z
+slots_one g one none l c k (Some x) (Some w) q also = ap (λ n. let s : Option ℕ = Some n in s) (one l l c k x w q also)
+slots_one g one none l c k (Some x) None q also = absurd (none l l c k x q also)
+slots_one g one none l c k None (Some w) q also = absurd (none l l c k w also q)
+slots_one g one none l c k None None q also = refl
 
 -- the start
 same_get : {X : Type 0} (n l : ℕ) (x : X) → get_or (replicate n x) l x ≡ x

@@ -1,5 +1,5 @@
 -- The marks of a sweep, one after another.
-use Rattle.std.proofs.Common.{◌≡◌, ℕ, zero, suc, ◌+◌, ◌-◌, ◌*◌, ◌/◌, ◌%◌, ◌<◌, ◌≤◌, inl, inr, Bool, true, false, cond, List, [], ◌∷◌, ◌++◌, length, get_or, set, take, refl, sym, ap, ◌∙◌, subst, arith, get_or-set_same, Contains, vec_len, Vec, Global}
+use Rattle.std.proofs.Common.{◌≡◌, ℕ, zero, suc, ◌+◌, ◌-◌, ◌*◌, ◌/◌, ◌%◌, ◌<◌, ◌≤◌, ◌⊎◌, ⊎_elim, inl, inr, Bool, true, false, cond, List, [], ◌∷◌, ◌++◌, length, get_or, set, take, refl, sym, ap, ◌∙◌, subst, arith, get_or-set_same, Contains, vec_len, Vec, Global}
 use Rattle.std.specs.Prelude.{Option, Some, None, nat_lt, nat_le, ◌&&◌}
 use Rattle.std.specs.Vec.{vec_capacity}
 use Rattle.std.proofs.lemmas.Bool.Decides.{nat_tests}
@@ -162,24 +162,34 @@ marked_contains (Some y ∷ ms) zero x at = (0, omega arith, some_same y x (same
 marked_contains (None ∷ ms) (suc i) x at = marked_contains ms i x at
 marked_contains (Some y ∷ ms) (suc i) x at = let q = marked_contains ms i x at in (suc q.0, (let lt = q.1 in omega arith), q.2)
 
+-- where a sweep found an item: by the mark of a place in the claimed chain, or as the item placed in the owned one
+abbrev pub IsNotedAt : Leaf → Notes → ℕ → ℕ → ℕ → Type 0
+IsNotedAt a t c k x = ((r : ℕ) × IsAt a.claimed r c × IsAt t.marked (256 * r + k) (Some x)) ⊎ ((r : ℕ) × IsAt a.owned r c × IsAt t.placed (256 * r + k) x)
+
 -- each item that the owner knows to stand in a list is found by its sweep
-pub all_found : (h : Ledger) (l p f m n c k x : ℕ) (a : Leaf) (t : Notes) → leaf_of h l ≡ a → notes_of h l ≡ t → a.stage ≡ Swept p f m → f + a.used ≤ m → IsKept h → length h.owner.book.leaves ≡ n → l < n
+pub item_noted : (h : Ledger) (l p f m n c k x : ℕ) (a : Leaf) (t : Notes) → leaf_of h l ≡ a → notes_of h l ≡ t → a.stage ≡ Swept p f m → f + a.used ≤ m → IsKept h → length h.owner.book.leaves ≡ n → l < n
     → ((o b d i y z : ℕ) → Knows h.owner.facts (Item o d i y) → Knows h.owner.facts (Item b d i z) → y ≡ z) → ((o b d i y : ℕ) → Knows h.owner.facts (Item o d i y) → Knows h.owner.facts (Empty b d i) → ⊥)
     → ((y : Chain) × (r : ℕ) × IsAt (chain_of a y) r c × (k < 256) × IsSweptPlace a f y (256 * r + k))
-    → Knows h.owner.facts (Item l c k x) → Contains (items_in t.marked ++ t.placed) x
-all_found h l p f m n c k x a t leaf notes shut all kept long lt one none place item = by place.0 place.2 place.4 where
+    → Knows h.owner.facts (Item l c k x) → IsNotedAt a t c k x
+item_noted h l p f m n c k x a t leaf notes shut all kept long lt one none place item = by place.0 place.2 place.4 where
   noted : IsNoted h.owner.facts l a t (Swept p f m)
   noted = subst (IsNoted h.owner.facts l a t) shut (subst (λ (z : Leaf × Notes). IsNoted h.owner.facts l z.0 z.1 z.0.stage) (λ i. (leaf i, notes i)) (kept.noted l (leaf_of h l) (notes_of h l) (leaf_at h n l long lt) (notes_at h n l kept long lt)))
 
   r : ℕ
   r = place.1
 
-  found : (y : Option ℕ) → IsAt t.marked (256 * place.1 + k) y → Knows h.owner.facts (shown l c k y) → Contains (items_in t.marked ++ t.placed) x
-  found (Some y) at q = Contains-append_left (items_in t.marked) t.placed x (marked_contains t.marked (256 * place.1 + k) x (at ∙ ap (λ (z : ℕ). Some (Some z)) (sym (one l l c k x y item q))))
+  found : (y : Option ℕ) → IsAt t.marked (256 * place.1 + k) y → Knows h.owner.facts (shown l c k y) → IsAt t.marked (256 * place.1 + k) (Some x)
+  found (Some y) at q = at ∙ ap (λ (z : ℕ). Some (Some z)) (sym (one l l c k x y item q))
   found None at q = absurd (none l l c k x item q)
 
-  by : (y : Chain) → IsAt (chain_of a y) place.1 c → IsSweptPlace a f y (256 * place.1 + k) → Contains (items_in t.marked ++ t.placed) x
-  by claimed_chain at lt' = let count = noted.1.all (omega arith) in let z = some_at t.marked (256 * place.1 + k) (omega arith) in found z.0 z.1 (noted.1.known place.1 c k z.0 at place.3 z.1)
+  by : (y : Chain) → IsAt (chain_of a y) place.1 c → IsSweptPlace a f y (256 * place.1 + k) → IsNotedAt a t c k x
+  by claimed_chain at lt' = let count = noted.1.all (omega arith) in let z = some_at t.marked (256 * place.1 + k) (omega arith) in
+      inl (place.1, at, found z.0 z.1 (noted.1.known place.1 c k z.0 at place.3 z.1))
   by owned_chain at lt' = let count = noted.0.counted in let z = some_at t.placed (256 * place.1 + k) (omega arith) in
       let same = one l l c k x z.0 item (noted.0.known place.1 c k z.0 at place.3 z.1) in
-      Contains-append_right (items_in t.marked) t.placed x (at_contained t.placed (256 * place.1 + k) x (z.1 ∙ ap Some (sym same)))
+      inr (place.1, at, z.1 ∙ ap Some (sym same))
+
+pub noted_is_found : (a : Leaf) (t : Notes) (c k x : ℕ) → IsNotedAt a t c k x → Contains (items_in t.marked ++ t.placed) x
+noted_is_found a t c k x noted = ⊎_elim
+    (λ z. Contains-append_left (items_in t.marked) t.placed x (marked_contains t.marked (256 * z.0 + k) x z.2))
+    (λ z. Contains-append_right (items_in t.marked) t.placed x (at_contained t.placed (256 * z.0 + k) x z.2)) noted

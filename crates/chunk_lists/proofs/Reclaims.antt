@@ -1,5 +1,6 @@
 -- The next shut list is cleared, in the book and in the ledger, and lists are cleared one after another.
 use Rattle.std.proofs.Common.{◌≡◌, ℕ, suc, ◌+◌, ◌*◌, ◌<◌, inr, ⊎_elim, List, [], ◌∷◌, ◌++◌, Some, length, get_or, set, take, Contains, refl, sym, ap, ◌∙◌, subst, arith}
+use Rattle.std.specs.Prelude.{Option, None, filter}
 use Rattle.std.proofs.lemmas.Option.{slice_get-get_or, same_Some}
 use Rattle.std.proofs.lemmas.List.{length-append}
 use Rattle.std.proofs.lemmas.List.Elements.{Contains-append_left, Contains-append_right}
@@ -15,12 +16,16 @@ use Rattle.list_words.specs.declared.leaf_lists.Phase.{Phase}
 use Rattle.list_words.specs.declared.leaf_lists.Phase.TheVariants.{Fresh, Open, Shut}
 use Rattle.list_words.proofs.ClearLaws.{IsClearing, clearing_more, clearing_none, contains_last}
 use Rattle.list_book.specs.Books.{BookRow, BookValue, book_row, row_count, emptied_row, next_in_order, MayClearNext, with_next_cleared}
-use Rattle.list_table.specs.Ledgers.{no_notes, leaf_of, notes_of}
+use Rattle.list_machine.specs.Steps.{is_kept}
+use Rattle.list_machine.specs.declared.views.Fact.{Fact}
+use Rattle.list_machine.specs.declared.views.Fact.TheVariants.{Item, Empty}
+use Rattle.list_table.proofs.Clears.{others_stay}
+use Rattle.list_table.specs.Ledgers.{Knows, no_notes, leaf_of, notes_of, shown}
 use Rattle.list_table.specs.OwnerMoves.{MayBegin, chunks_in}
 use Rattle.list_table.specs.declared.views.Notes.{Notes}
 use Rattle.list_table.specs.declared.views.Ledger.{Ledger}
 use Rattle.list_table.proofs.Frames.{leaf_at}
-use Rattle.chunk_lists.specs.Keepers.{KeeperValue, rows_of, store_of, KnownIn, IsInPhase, IsTiedRow, AreTied}
+use Rattle.chunk_lists.specs.Keepers.{KeeperValue, rows_of, store_of, ShownIn, IsInPhase, IsTiedRow, AreTied}
 use Rattle.chunk_lists.specs.Wipes.{cleared_ledger}
 use Rattle.chunk_lists.proofs.Ties.{OneChanges, tied_set, store_then, row_is}
 
@@ -92,16 +97,21 @@ module _ (lists chunks : ℕ) (g : Ledger) (b : BookValue) (t : AreTied lists ch
 
 -- ---- lists that are cleared in turn
 
+-- of the other lists nothing is forgotten where the facts of one are
+pub slot_stays : (l : ℕ) (facts : List Fact) (h c k : ℕ) (y : Option ℕ) → (h ≡ l → ⊥) → Knows facts (shown h c k y) → Knows (filter (is_kept l) facts) (shown h c k y)
+slot_stays l facts h c k (Some x) other known = others_stay l facts h other (Item h c k x) refl known
+slot_stays l facts h c k None other known = others_stay l facts h other (Empty h c k) refl known
+
 -- an owner after some of the lists that may be cleared were cleared: nothing is forgotten of the others
 pub record IsClearingOf (k q : KeeperValue) : Type 0 where
   pub stores : IsClearing (store_of k) (store_of q)
-  pub known : (h c x : ℕ) → (Contains (take q.book.cleared k.book.order) h → ⊥) → KnownIn k h c x → KnownIn q h c x
+  pub known : (h c j : ℕ) (y : Option ℕ) → (Contains (take q.book.cleared k.book.order) h → ⊥) → ShownIn k h c j y → ShownIn q h c j y
 
 pub clearing_start : (k : KeeperValue) → IsClearingOf k k
-clearing_start k = record { stores = clearing_none (store_of k); known = λ h c x uncleared known. known }
+clearing_start k = record { stores = clearing_none (store_of k); known = λ h c j y uncleared known. known }
 
 pub clearing_next : (k q n : KeeperValue) (l : ℕ) → IsClearingOf k q → MayClearNext q.book → l ≡ next_in_order q.book → store_of n ≡ cleared_store (store_of q) l → (row_in (store_of q).rows l).phase ≡ Shut → l < length (store_of q).rows
-    → ((h c x : ℕ) → (h ≡ l → ⊥) → KnownIn q h c x → KnownIn n h c x) → IsClearingOf k n
+    → ((h c j : ℕ) (y : Option ℕ) → (h ≡ l → ⊥) → ShownIn q h c j y → ShownIn n h c j y) → IsClearingOf k n
 clearing_next k q n l done may is store shut low known =
     let order_is : q.book.order ≡ k.book.order = ap (λ (x : Store). x.order) done.stores.rest in
     let some : q.book.cleared < length k.book.order = subst (λ (xs : List ℕ). q.book.cleared < length xs) order_is may.some in
@@ -109,7 +119,7 @@ clearing_next k q n l done may is store shut low known =
     let cleared : n.book.cleared ≡ suc q.book.cleared = ap (λ (x : Store). x.cleared) store in
     let taken : take n.book.cleared k.book.order ≡ take q.book.cleared k.book.order ++ l ∷ [] = ap (λ (j : ℕ). take j k.book.order) cleared ∙ (take-suc k.book.order q.book.cleared 0 some ∙ ap (λ j. take q.book.cleared k.book.order ++ j ∷ []) l_is) in record {
       stores = subst (IsClearing (store_of k)) (ap (cleared_store (store_of q)) (sym is) ∙ sym store) (clearing_more (store_of k) (store_of q) done.stores may.some may.nobody (subst (λ (j : ℕ). (row_in (store_of q).rows j).phase ≡ Shut) is shut) (subst (λ (j : ℕ). j < length (store_of q).rows) is low));
-      known = λ h c x uncleared was. known h c x
+      known = λ h c j y uncleared was. known h c j y
           (λ same. uncleared (subst (λ (xs : List ℕ). Contains xs h) (sym taken) (Contains-append_right (take q.book.cleared k.book.order) (l ∷ []) h (contains_last l h same))))
-          (done.known h c x (λ inside. uncleared (subst (λ (xs : List ℕ). Contains xs h) (sym taken) (Contains-append_left (take q.book.cleared k.book.order) (l ∷ []) h inside))) was);
+          (done.known h c j y (λ inside. uncleared (subst (λ (xs : List ℕ). Contains xs h) (sym taken) (Contains-append_left (take q.book.cleared k.book.order) (l ∷ []) h inside))) was);
     }

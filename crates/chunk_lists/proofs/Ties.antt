@@ -90,10 +90,16 @@ module _ (lists chunks : ℕ) (g : Ledger) (b : BookValue) (t : AreTied lists ch
   pub phase_is : (l : ℕ) (p : Phase) → (row_in (rows_of b.rows g.notes) l).phase ≡ p → (book_row b l).phase ≡ p
   phase_is l p e = ap (λ (x : Row). x.phase) (sym (row_is l)) ∙ e
 
-  pub open_below : (l : ℕ) → (book_row b l).phase ≡ Open → l < lists
-  open_below l e = dite (dec_le (length b.rows) l)
-      (λ le. let none : (book_row b l).phase ≡ Fresh = ap (λ (x : BookRow). x.phase) (get_or_past b.rows l fresh_row le) in let no : Fresh ≡ Open = sym none ∙ e in absurd (cc))
+  begun_below : (l : ℕ) → ((book_row b l).phase ≡ Fresh → ⊥) → l < lists
+  begun_below l begun = dite (dec_le (length b.rows) l)
+      (λ le. absurd (begun (ap (λ (x : BookRow). x.phase) (get_or_past b.rows l fresh_row le))))
       (λ n. let rows = t.rows in omega arith)
+
+  pub open_below : (l : ℕ) → (book_row b l).phase ≡ Open → l < lists
+  open_below l e = begun_below l (λ fresh. let no : Fresh ≡ Open = sym fresh ∙ e in absurd (cc))
+
+  pub shut_below : (l : ℕ) → (book_row b l).phase ≡ Shut → l < lists
+  shut_below l e = begun_below l (λ fresh. let no : Fresh ≡ Shut = sym fresh ∙ e in absurd (cc))
 
 -- what the owner knows of an open list
 pub open_phase : (r : BookRow) (a : Leaf) (s : Notes) → IsTiedRow r a s → r.phase ≡ Open → (a.stage ≡ Unshut) × (a.used ≡ r.used)

@@ -2,6 +2,7 @@
 use Rattle.std.specs.Prelude.{◌≡◌, ℕ, ◌+◌, ◌<◌, ◌⊎◌, List, [], ◌∷◌, length, Option}
 use Rattle.list_machine.specs.Facts.{total}
 use Rattle.list_machine.specs.Steps.{opening_leaf}
+use Rattle.list_machine.specs.declared.views.Fact.{Fact}
 use Rattle.list_machine.specs.declared.views.Fact.TheVariants.{Item}
 use Rattle.list_machine.specs.declared.views.Stage.TheVariants.{Open as Unshut, Swept, Cleared}
 use Rattle.list_machine.specs.declared.views.Stage.{Stage}
@@ -46,6 +47,10 @@ KnownIn k l c x = (k' : ℕ) × Knows k.ledger.owner.facts (Item l c k' x)
 -- the owner knows of the slot of the chunk that it has this item, or that it was marked while it was empty
 abbrev pub ShownIn : KeeperValue → ℕ → ℕ → ℕ → Option ℕ → Type 0
 ShownIn k l c k' y = Knows k.ledger.owner.facts (shown l c k' y)
+
+-- of what the owner knew nothing is forgotten
+abbrev pub KeepsFacts : KeeperValue → KeeperValue → Type 0
+KeepsFacts before after = (f : Fact) → Knows before.ledger.owner.facts f → Knows after.ledger.owner.facts f
 
 -- how many places were claimed, as the shut of a list at this stage found
 abbrev pub claims_at : Stage → ℕ

@@ -4,15 +4,17 @@ ghost use Rattle.list_machine.specs.Steps.{newcomer};
 ghost use Rattle.list_machine.specs.declared.views.Fact.{Fact};
 ghost use Rattle.list_machine.specs.declared.views.Fact.TheVariants.{Item, Link, Closed, Empty};
 ghost use Rattle.list_machine.specs.declared.views.LinkWord.{LinkWord};
-ghost use Rattle.list_words.specs.Store.{AreMarks, IsCleared, IsInNoChain, IsOpen, IsReclaimed, IsShut, Keeps, MayAdmit, admitted, chunks_of, found_in, held_of, lengthened, linked, one_less, one_more, opened, placed_in, roomier, row, seats_out, shut_now, with_chunk, with_row, cleared_store};
+ghost use Rattle.list_words.specs.Store.{AreMarks, IsCleared, IsFoundAt, IsInNoChain, IsOpen, IsReclaimed, IsShut, MayAdmit, StandOnce, admitted, chunks_of, found_in, held_of, lengthened, linked, one_less, one_more, opened, placed_in, roomier, row, seats_out, shut_now, with_chunk, with_row, cleared_store};
 ghost use Rattle.list_words.specs.declared.leaf_lists.Phase.TheVariants.{Fresh};
 ghost use Rattle.list_book.specs.Books.{MayClearNext, fresh_book, next_in_order};
 ghost use Rattle.list_table.specs.Ledgers.{Knows, opening_ledger};
-ghost use Rattle.chunk_lists.specs.Keepers.{KnownIn, ShownIn, claims_of, store_of, store_with};
+ghost use Rattle.chunk_lists.specs.Keepers.{KeepsFacts, KnownIn, ShownIn, claims_of, store_of, store_with};
 
 use crate::sweeping::shut_and_mark;
 use crate::wiping::wipe;
-use list_book::{Book, counts_are_kept, numbers_are_small, order_is_of_shut_lists};
+use list_book::{
+    Book, chunks_stand_once, counts_are_kept, numbers_are_small, order_is_of_shut_lists,
+};
 use list_machine::Grant;
 use list_table::{GuestSeat, OwnerSeat, SharedLists};
 use std::alloc::{AllocError, Global};
@@ -142,7 +144,7 @@ impl Keeper {
         requires room { 0 < (row (store_of self.old) list).claimed_room }
         requires free { 0 < (store_of self.old).free }
         ensures store { (c : ℕ) × (c < (store_of self.old).chunks) × IsInNoChain (store_of self.old) c × (store_of self.new ≡ with_chunk (store_of self.old) list (linked (row (store_of self.old) list) c)) }
-        ensures known { Keeps (KnownIn self.old) (KnownIn self.new) }
+        ensures known { KeepsFacts self.old self.new }
     {
         numbers_are_small(&self.book);
         let chain = self.book.claimed(list);
@@ -158,7 +160,7 @@ impl Keeper {
         requires room { 0 < (row (store_of self.old) list).owned_room }
         requires free { 0 < (store_of self.old).free }
         ensures store { (c : ℕ) × (c < (store_of self.old).chunks) × IsInNoChain (store_of self.old) c × (store_of self.new ≡ with_chunk (store_of self.old) list (lengthened (row (store_of self.old) list) c)) }
-        ensures known { Keeps (KnownIn self.old) (KnownIn self.new) }
+        ensures known { KeepsFacts self.old self.new }
     {
         let chunk = self.book.extend_owned(list);
         self.lists.adopt(&mut self.seat, list, chunk);
@@ -171,8 +173,8 @@ impl Keeper {
         ensures store { store_of self.new ≡ with_row (store_of self.old) list (placed_in (row (store_of self.old) list) item) }
         ensures chunk { slice_get (row (store_of self.old) list).owned (length (row (store_of self.old) list).placed / 256) ≡ Some result.0 }
         ensures slot { result.1 ≡ length (row (store_of self.old) list).placed % 256 }
-        ensures placed { KnownIn self.new list result.0 item }
-        ensures known { Keeps (KnownIn self.old) (KnownIn self.new) }
+        ensures placed { Knows self.new.ledger.owner.facts (Item list result.0 result.1 item) }
+        ensures known { KeepsFacts self.old self.new }
     {
         numbers_are_small(&self.book);
         self.seat.notes_are_kept();
@@ -191,7 +193,7 @@ impl Keeper {
         ensures marks { AreMarks (ShownIn self.new list) (claims_of self.new list) (row (store_of self.new) list) }
         ensures swept { (c x : ℕ) → KnownIn self.old list c x → Contains (found_in (row (store_of self.new) list)) x }
         ensures capacity { vec_capacity out.old ≤ vec_capacity out.new }
-        ensures known { Keeps (KnownIn self.old) (KnownIn self.new) }
+        ensures known { KeepsFacts self.old self.new }
     {
         numbers_are_small(&self.book);
         let claimed = self.book.claimed(list);
@@ -208,7 +210,7 @@ impl Keeper {
         requires { (r : ℕ) × (i : ℕ) × MayAdmit (store_with self.old r i) grants.now }
         ensures store { store_of self.new ≡ admitted (store_of self.old) grants.now }
         ensures guest { result ≡ record { name = self.old.name; guest = newcomer self.old.ledger.owner grants.now } }
-        ensures known { Keeps (KnownIn self.old) (KnownIn self.new) }
+        ensures known { KeepsFacts self.old self.new }
     {
         self.book.grant(grants);
         self.lists.admit(&mut self.seat, grants)
@@ -220,7 +222,7 @@ impl Keeper {
         ensures store { store_of self.new ≡ one_more (store_of self.old) }
         ensures guest { result ≡ record { name = self.old.name; guest = newcomer self.old.ledger.owner [] } }
         ensures open { (l c k x : ℕ) → IsOpen (store_of self.old) l → Knows self.old.ledger.owner.facts (Item l c k x) → Knows result.guest.facts (Item l c k x) }
-        ensures known { Keeps (KnownIn self.old) (KnownIn self.new) }
+        ensures known { KeepsFacts self.old self.new }
     {
         numbers_are_small(&self.book);
         self.lend(&[])
@@ -233,7 +235,7 @@ impl Keeper {
         requires birth { birth ≡ guest.guest.birth }
         ensures store { store_of self.new ≡ one_less (store_of self.old) birth }
         ensures learns { (f : Fact) → Knows guest.guest.facts f → Knows self.new.ledger.owner.facts f }
-        ensures known { (f : Fact) → Knows self.old.ledger.owner.facts f → Knows self.new.ledger.owner.facts f }
+        ensures known { KeepsFacts self.old self.new }
     {
         self.lists.take_back(&mut self.seat, guest);
         self.book.count_off(birth);
@@ -243,7 +245,7 @@ impl Keeper {
     /// which is out may reach, and gives their chunks back. It takes no memory.
     pub fn reclaim(&mut self)
         ensures store { IsReclaimed (store_of self.old) (store_of self.new) }
-        ensures known { (l c x : ℕ) → (IsCleared (store_of self.new) l → ⊥) → KnownIn self.old l c x → KnownIn self.new l c x }
+        ensures known { (l c k : ℕ) (y : Option ℕ) → (IsCleared (store_of self.new) l → ⊥) → ShownIn self.old l c k y → ShownIn self.new l c k y }
     {
         counts_are_kept(&self.book);
         while let Some(list) = self.book.may_clear() {
@@ -252,9 +254,25 @@ impl Keeper {
         counts_are_kept(&self.book);
     }
 
-    /// A law: an item that the owner knows to stand in a shut list was found by its sweep.
+    /// A law: of one slot the owner knows one thing.
+    pub fn known_slots_agree(&self)
+        ensures { (l c k : ℕ) (y z : Option ℕ) → ShownIn self.now l c k y → ShownIn self.now l c k z → y ≡ z }
+    {
+        self.seat.facts_agree();
+    }
+
+    /// A law: a chunk has one place in the chains of all lists.
+    pub fn chunks_stand_once(&self)
+        ensures { StandOnce (store_of self.now) }
+    {
+        chunks_stand_once(&self.book);
+    }
+
+    /// A law: of a shut list there is one mark for each place that its shut found claimed; and an item that the owner
+    /// knows to stand there was found by its sweep, in its slot.
     pub fn known_items_are_found(&self)
-        ensures { (l c x : ℕ) → KnownIn self.now l c x → IsShut (store_of self.now) l → Contains (found_in (row (store_of self.now) l)) x }
+        ensures claims { (l : ℕ) → IsShut (store_of self.now) l → length (row (store_of self.now) l).marked ≡ claims_of self.now l }
+        ensures found { (l c k x : ℕ) → IsShut (store_of self.now) l → Knows self.now.ledger.owner.facts (Item l c k x) → IsFoundAt (row (store_of self.now) l) c k x }
     {
         self.seat.notes_are_kept();
         self.seat.facts_agree();
@@ -291,7 +309,7 @@ impl Keeper {
         ensures store { store_of self.new ≡ cleared_store (store_of self.old) list }
         ensures shut { IsShut (store_of self.old) list }
         ensures below { list < length (store_of self.old).rows }
-        ensures known { (l c x : ℕ) → (l ≡ list → ⊥) → KnownIn self.old l c x → KnownIn self.new l c x }
+        ensures known { (l c k : ℕ) (y : Option ℕ) → (l ≡ list → ⊥) → ShownIn self.old l c k y → ShownIn self.new l c k y }
     {
         numbers_are_small(&self.book);
         order_is_of_shut_lists(&self.book);

@@ -54,7 +54,7 @@ impl Knife {
 }
 
 impl LeafLists for Knife {
-    ghost use Rattle.chunk_lists.specs.Keepers.{KnownIn, claims_of};
+    ghost use Rattle.chunk_lists.specs.Keepers.{KnownIn, ShownIn, claims_of};
     ghost use Rattle.chunk_lists.specs.Knives.{lists_of, seat_of, Sees};
 
     type Filer = Filer;
@@ -64,6 +64,8 @@ impl LeafLists for Knife {
     ghost store = { lists_of };
 
     ghost knows = { λ k. KnownIn k.keeper };
+
+    ghost shown = { λ k. ShownIn k.keeper };
 
     ghost claims = { λ k. claims_of k.keeper };
 
@@ -105,19 +107,7 @@ impl LeafLists for Knife {
         self.keeper.place(list, item)
     }
 
-    /// Besides, the owner knows of each slot what its mark found.
-    fn shut_and_sweep(&mut self, list: u32, out: &mut Vec<u32>)
-        requires takes { IsOpen (lists_of self.old) list }
-        requires room { vec_len out.old + 256 * length (chunks_of (row (lists_of self.old) list)) ≤ vec_capacity out.old }
-        ensures store { (marked : List (Option ℕ)) × (length marked ≤ (row (lists_of self.old) list).granted) × (lists_of self.new ≡ shut_now (lists_of self.old) list marked) }
-        ensures found { out.new.items ≡ out.old.items ++ found_in (row (lists_of self.new) list) }
-        ensures slots { AreMarks (ShownIn self.new.keeper list) (claims_of self.new.keeper list) (row (lists_of self.new) list) }
-        ensures marks { AreMarks (Stood (KnownIn self.new.keeper list)) (claims_of self.new.keeper list) (row (lists_of self.new) list) }
-        ensures stands { (x : ℕ) → Contains (found_in (row (lists_of self.new) list)) x → (c : ℕ) × KnownIn self.new.keeper list c x }
-        ensures swept { (c x : ℕ) → KnownIn self.old.keeper list c x → Contains (found_in (row (lists_of self.new) list)) x }
-        ensures capacity { vec_capacity out.old ≤ vec_capacity out.new }
-        ensures known { Keeps (KnownIn self.old.keeper) (KnownIn self.new.keeper) }
-    {
+    fn shut_and_sweep(&mut self, list: u32, out: &mut Vec<u32>) {
         self.keeper.shut_and_sweep(list, out);
     }
 
@@ -146,7 +136,9 @@ impl LeafLists for Knife {
         let seat = filer.into_seat();
         self.keeper.take_back(seat, birth);
         self.keeper.known_items_are_found();
+        self.keeper.known_items_have_chunks();
         self.keeper.known_links_have_chunks();
+        self.keeper.chunks_stand_once();
         self.keeper.late_lists_are_shut();
     }
 
@@ -173,5 +165,12 @@ impl LeafLists for Knife {
 
     fn seats_out(&self) -> u64 {
         self.keeper.seats_out()
+    }
+
+    fn slots_agree(&self) {
+        self.keeper.known_slots_agree();
+        self.keeper.known_items_have_chunks();
+        self.keeper.known_items_are_found();
+        self.keeper.chunks_stand_once();
     }
 }

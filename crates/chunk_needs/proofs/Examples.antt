@@ -11,6 +11,7 @@ use Rattle.leaf_counts.specs.Nodes.{NodesAt, is_leaf, is_leaf_at}
 use Rattle.leaf_counts.specs.Paths.{leaf_paths, paths_below}
 use Rattle.leaf_counts.proofs.CountLaws as laws
 use Rattle.leaf_counts.proofs.CountLaws.{counted_is}
+use Rattle.leaf_counts.proofs.LeafLaws.{leaf_below, leaf_here}
 use Rattle.leaf_counts.proofs.NodeLaws.{node_at-Leaf}
 use Rattle.leaf_counts.proofs.PathLaws.{leaf_paths-Leaf, leaf_paths-Inner}
 use Rattle.record_model.specs.Admissions.{AdmissionValue, admissions}
@@ -19,9 +20,9 @@ use Rattle.cube_math.specs.declared.config.Config.{Config}
 use Rattle.record_model.specs.declared.event.Event.{Event}
 use Rattle.record_model.specs.declared.event.Event.TheVariants.{Admission, Publication}
 use Rattle.chunk_needs.specs.Leaves.{counts_of, is_leaf_of, leaves, made_leaves, number_in}
-use Rattle.chunk_needs.specs.Needs.{need}
+use Rattle.chunk_needs.specs.Needs.{leaf_chunks, need}
 use Rattle.chunk_needs.specs.Slots.{granted, owned}
-use Rattle.chunk_needs.proofs.NeedLaws.{need_of_admission}
+use Rattle.chunk_needs.proofs.NeedLaws.{admitted_at_leaf, need_of_admission}
 
 abbrev root : CubeValue
 root = record { ox = pos 0; oy = pos 0; oz = pos 0; bits = 8 }
@@ -116,20 +117,51 @@ none_was (g ∷ gs) = (λ i. cond (not (no_leaf_below 2 g [] i)) ((g ∷ []) ∷
 made : made_leaves config (half ++ second_admission ∷ []) second_publication ≡ eight
 made = (λ i. filter (λ path. not (is_leaf_at (two_points i) path)) (three_points i)) ∙ none_was (up_to 8)
 
+-- no octant was a leaf when they were admitted
+none_before : (g : ℕ) → is_leaf_of config [] (g ∷ []) ≡ false
+none_before g = ap (λ (t : Counts). is_leaf_at t (g ∷ [])) no_points ∙ no_leaf_below 0 g []
+
+none_then : (g : ℕ) → is_leaf_of config two (g ∷ []) ≡ false
+none_then g = ap (λ (t : Counts). is_leaf_at t (g ∷ [])) two_points ∙ no_leaf_below 2 g []
+
 -- an octant owns slots for the admitted points in it
 owns : (g : ℕ) → owned config (half ++ second_admission ∷ second_publication ∷ []) (g ∷ []) ≡ length (inside (child root g) two) + length (inside (child root g) third)
-owns g = (λ i. (0 + cond (none_before i) 0 (length (inside (child root g) two))) + cond (none_then i) 0 (length (inside (child root g) third))) ∙ plain _ _
+owns g = (λ i. (0 + cond (none_before g i) 0 (length (inside (child root g) two))) + cond (none_then g i) 0 (length (inside (child root g) third))) ∙ plain _ _
   where
     plain : (a b : ℕ) → (0 + a) + b ≡ a + b
     plain a b = omega arith
 
-    none_before : is_leaf_of config [] (g ∷ []) ≡ false
-    none_before = ap (λ (t : Counts). is_leaf_at t (g ∷ [])) no_points ∙ no_leaf_below 0 g []
-
-    none_then : is_leaf_of config two (g ∷ []) ≡ false
-    none_then = ap (λ (t : Counts). is_leaf_at t (g ∷ [])) two_points ∙ no_leaf_below 2 g []
+-- and none is granted there
+none_granted : (g : ℕ) → granted config (half ++ second_admission ∷ second_publication ∷ []) (g ∷ []) ≡ 0
+none_granted g = (λ i. (0 + cond (none_before g i) (length (inside (child root g) two)) 0) + cond (none_then g i) (length (inside (child root g) third)) 0)
 
 -- its publication splits the root, and needs a chunk for each of the two octants with points
 fourth_needs : need config (half ++ second_admission ∷ []) second_publication ≡ 2
 fourth_needs = ap (sum_by (λ path. chunks_for (owned config (half ++ second_admission ∷ second_publication ∷ []) path))) made
     ∙ (λ i. ((((((((0 + chunks_for (owns 0 i)) + chunks_for (owns 1 i)) + chunks_for (owns 2 i)) + chunks_for (owns 3 i)) + chunks_for (owns 4 i)) + chunks_for (owns 5 i)) + chunks_for (owns 6 i)) + chunks_for (owns 7 i)))
+
+-- a fourth point comes, beside the first and the third
+abbrev fourth : List PointValue
+fourth = white 2 ∷ []
+
+abbrev split : Record
+split = half ++ second_admission ∷ second_publication ∷ []
+
+abbrev third_admission : Event × ℕ
+third_admission = (Admission 2 fourth, 0)
+
+-- the octants are leaves then, as they were not when the points before were admitted
+octant_is_leaf : (g : ℕ) → g < 8 → is_leaf_of config three (g ∷ []) ≡ true
+octant_is_leaf g low =
+    ap (λ (t : Counts). is_leaf_at t (g ∷ [])) (counted_is 2 root three)
+    ∙ leaf_below 2 root three g [] record { more = omega arith; high = omega arith } low ∙ leaf_here 2 (child root g) three (inr (omega arith))
+
+-- so the first octant owns the slots of two points, and is granted one for the fourth: a chunk for each
+first_octant_owns : owned config (split ++ third_admission ∷ []) (0 ∷ []) ≡ 2
+first_octant_owns = (admitted_at_leaf config split 2 0 fourth (0 ∷ []) (octant_is_leaf 0 (omega arith))).1 ∙ owns 0
+
+first_octant_is_granted : granted config (split ++ third_admission ∷ []) (0 ∷ []) ≡ 1
+first_octant_is_granted = (admitted_at_leaf config split 2 0 fourth (0 ∷ []) (octant_is_leaf 0 (omega arith))).0 ∙ ap (λ n. n + 1) (none_granted 0)
+
+first_octant_has_both : leaf_chunks config (split ++ third_admission ∷ []) (0 ∷ []) ≡ 2
+first_octant_has_both = (λ i. chunks_for (first_octant_is_granted i) + chunks_for (first_octant_owns i))

@@ -2,7 +2,8 @@
 use Rattle.std.proofs.Common.{◌≡◌, ◌⊎◌, ℕ, zero, suc, ◌+◌, ◌<◌, ◌≤◌, inl, inr, Bool, true, false, not, cond, ◌&&◌, List, [], ◌∷◌, ◌++◌, map, length, filter, Some, None, Option, ap, ◌∙◌, sym, refl, arith, slice_get, length-append, subst}
 use Rattle.std.proofs.lemmas.Bool.{cases_lt, and_parts, eqb-true, and_right, and_from, le-ltb, lt-ltb}
 use Rattle.std.specs.Prelude.{unwrap_or, option_map, nat_lt}
-use Rattle.std.proofs.lemmas.List.Elements.{filter-append}
+use Rattle.std.specs.List.{All, AllByRecursion}
+use Rattle.std.proofs.lemmas.List.Elements.{All-from_recursion, filter-append}
 use Rattle.std.proofs.lemmas.Option.{none-some, slice_get_read, slice_get_past, slice_get_within, get_or_from_slice_get}
 use Rattle.cube_math.specs.Points.{PointValue}
 use Rattle.cube_math.specs.Cubes.{CubeValue, contains, child, octant}
@@ -279,6 +280,26 @@ fits (g ∷ path) leaf c ps node low e = elim (leaf_or_split leaf c ps) [
 -- what is said of counts by levels is said of those of the octree
 pub leaf_by_counts : (leaf : ℕ) (c : CubeValue) (ps : List PointValue) (path : List ℕ) → is_leaf_at (counted (octree leaf c ps)) path ≡ true → is_leaf_at (counts_of leaf c ps) path ≡ true
 leaf_by_counts leaf c ps path e = sym (ap (λ (t : Counts). is_leaf_at t path) (counted_is leaf c ps)) ∙ e
+
+-- of a list of which all pass, each passes
+all_pass : {X : Type 0} (test : X → Bool) (xs : List X) → filter (λ x. not (test x)) xs ≡ [] → AllByRecursion (λ x. test x ≡ true) xs
+all_pass test [] none = tt
+all_pass {X} test (x ∷ xs) none = one (test x) refl none (λ rest. all_pass test xs rest)
+  where
+    not_nil : x ∷ filter (λ y. not (test y)) xs ≡ [] → ⊥
+    not_nil e = cc
+
+    one : (b : Bool) → test x ≡ b → cond (not b) (x ∷ filter (λ y. not (test y)) xs) (filter (λ y. not (test y)) xs) ≡ []
+        → (filter (λ y. not (test y)) xs ≡ [] → AllByRecursion (λ y. test y ≡ true) xs) → AllByRecursion (λ y. test y ≡ true) (x ∷ xs)
+    one false e rest behind = absurd (not_nil rest)
+    one true e rest behind = (e, behind rest)
+
+pub leaf_paths_stand : (leaf : ℕ) (c : CubeValue) (ps : List PointValue)
+    → All (λ path. is_leaf_at (counted (octree leaf c ps)) path ≡ true) (leaf_paths (counted (octree leaf c ps)))
+leaf_paths_stand leaf c ps =
+    let t : Counts = counted (octree leaf c ps) in
+    let none : filter (λ path. not (is_leaf_at t path)) (leaf_paths t) ≡ [] = no_new_leaves leaf c ps t (counted_is leaf c ps) in
+    All-from_recursion (λ path. is_leaf_at t path ≡ true) (leaf_paths t) (all_pass (is_leaf_at t) (leaf_paths t) none)
 
 pub leaves_stay : (leaf : ℕ) (c : CubeValue) (ps qs : List PointValue)
     → filter (is_leaf_at (counted (octree leaf c ps))) (leaf_paths (counted (octree leaf c (ps ++ qs)))) ≡ filter (is_leaf_at (counted (octree leaf c (ps ++ qs)))) (leaf_paths (counted (octree leaf c ps)))

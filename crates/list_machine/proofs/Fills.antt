@@ -76,7 +76,7 @@ module _ (claim : Word) (first : ℕ) (next : ℕ → ℕ) (slot : ℕ → ℕ �
           marked_owned = λ q d j p' lt' m'. stays d j (λ (n : Word). n.high ≡ true) (λ e. absurd (cc)) (z.1.marked_owned q d j p' lt' m');
           unmarked = λ q d j p' lt' m'. at_slot d j (λ (n : Word). n.high ≡ false) (λ _ _. refl) (z.1.unmarked q d j p' lt' m');
           unmarked_owned = λ q d j p' lt' m'. at_slot d j (λ (n : Word). n.high ≡ false) (λ _ _. refl) (z.1.unmarked_owned q d j p' lt' m');
-          past = λ q d j p' lt' f'. at_slot d j (λ (n : Word). n.value ≡ 0) (λ e e'. let t = (rank claimed_chain q d p' e).1 in let b = before p f m is in absurd (omega arith)) (z.1.past q d j p' lt' f');
+          past = λ q d j p' lt' f'. at_slot d j (λ (n : Word). n ≡ blank) (λ e e'. let t = (rank claimed_chain q d p' e).1 in let b = before p f m is in absurd (omega arith)) (z.1.past q d j p' lt' f');
           within_claims = z.1.within_claims;
           within_slots = z.1.within_slots;
         },

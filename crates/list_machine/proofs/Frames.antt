@@ -49,7 +49,7 @@ module _ (claim : Word) (first : ℕ) (next next' : ℕ → ℕ) (slot slot' : �
       marked_owned = λ r c k q lt m'. ap (λ (y : Word). y.high) (slots c k (owned_chain, r, q) lt) ∙ x.1.marked_owned r c k q lt m';
       unmarked = λ r c k q lt m'. ap (λ (y : Word). y.high) (slots c k (claimed_chain, r, q) lt) ∙ x.1.unmarked r c k q lt m';
       unmarked_owned = λ r c k q lt m'. ap (λ (y : Word). y.high) (slots c k (owned_chain, r, q) lt) ∙ x.1.unmarked_owned r c k q lt m';
-      past = λ r c k q lt f'. ap (λ (y : Word). y.value) (slots c k (claimed_chain, r, q) lt) ∙ x.1.past r c k q lt f';
+      past = λ r c k q lt f'. slots c k (claimed_chain, r, q) lt ∙ x.1.past r c k q lt f';
       within_claims = x.1.within_claims;
       within_slots = x.1.within_slots;
     },

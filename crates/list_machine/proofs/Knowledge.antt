@@ -5,7 +5,7 @@ use native.Mathlib.Decide.{dec_le}
 use Rattle.list_machine.specs.Words.{Word, link_to}
 use Rattle.list_machine.specs.State.{Words, link_at}
 use Rattle.list_machine.specs.Facts.{IsAt, Chain, claimed_chain, owned_chain, chain_of, HasChunk, list_of, Holds, is_shut}
-use Rattle.list_machine.specs.Rule.{IsStanding, IsSwept, IsOwned, Sound}
+use Rattle.list_machine.specs.Rule.{IsStanding, IsSwept, IsOwned, IsStated, Sound}
 use Rattle.list_machine.specs.Steps.{KnowsLink, IsNextMark, IsSweptPlace}
 use Rattle.list_machine.specs.declared.views.LinkWord.{LinkWord}
 use Rattle.list_machine.specs.declared.views.Fact.{Fact}
@@ -43,18 +43,42 @@ module _ (w : Words) (o : Owner) (guests : List Guest) (s : Sound w o guests) wh
   owned_by : (q : ℕ) (f : Fact) (a : Leaf) → IsAt o.facts q f → IsAt o.book.leaves (list_of f) a → IsOwned w f a
   owned_by q f a known leaf = let t = s.known.owner q f known in subst (IsOwned w f) (at_same o.book.leaves (list_of f) t.0 a t.1 leaf) t.2
 
-  -- a list that is known to be shut is shut
-  pub closed_is_shut : (l q : ℕ) (a : Leaf) → IsAt o.facts q (Closed l) → IsAt o.book.leaves l a → is_shut a.stage ≡ true
-  closed_is_shut l q a known leaf = sym (s.shape.lists.lists l a leaf).shown ∙ (owned_by q (Closed l) a known leaf).0
+  -- a list of which the shut bit is raised is shut
+  closed_at : (l : ℕ) (a : Leaf) → IsAt o.book.leaves l a → Holds w (Closed l) → is_shut a.stage ≡ true
+  closed_at l a leaf holds = sym (s.shape.lists.lists l a leaf).shown ∙ holds
 
   -- and so is one in which a slot was marked while it was empty
+  empty_at : (l c k : ℕ) (a : Leaf) → IsAt o.book.leaves l a → HasChunk a c → k < 256 → Holds w (Empty l c k) → is_shut a.stage ≡ true
+  empty_at l c k a leaf has lt holds = by (is_shut a.stage) refl where
+    by : (b : Bool) → is_shut a.stage ≡ b → is_shut a.stage ≡ true
+    by true e = e
+    by false e =
+        let low = (as_open (w.claim l) (w.first l) w.next w.slot a (is_open a.stage e) (s.shape.lists.lists l a leaf)).1 c k has lt in
+        let high : (w.slot c k).high ≡ true = ap (λ (x : Word). x.high) holds in
+        let no : false ≡ true = sym low ∙ high in absurd (cc)
+
+  -- so it is where the owner knows this
+  pub closed_is_shut : (l q : ℕ) (a : Leaf) → IsAt o.facts q (Closed l) → IsAt o.book.leaves l a → is_shut a.stage ≡ true
+  closed_is_shut l q a known leaf = closed_at l a leaf (owned_by q (Closed l) a known leaf).0
+
   pub empty_is_shut : (l c k q : ℕ) (a : Leaf) → IsAt o.facts q (Empty l c k) → IsAt o.book.leaves l a → is_shut a.stage ≡ true
-  empty_is_shut l c k q a known leaf = by (is_shut a.stage) refl (owned_by q (Empty l c k) a known leaf) where
-    by : (b : Bool) → is_shut a.stage ≡ b → IsOwned w (Empty l c k) a → is_shut a.stage ≡ true
-    by true e t = e
-    by false e t = ⊎_elim
-        (λ z. let low = (as_open (w.claim l) (w.first l) w.next w.slot a (is_open a.stage e) (s.shape.lists.lists l a leaf)).1 c k z.1.0 z.1.1 in let high : (w.slot c k).high ≡ true = ap (λ (x : Word). x.high) t.0 in let no : false ≡ true = sym low ∙ high in absurd (cc))
-        (λ is. absurd (cc)) t.1
+  empty_is_shut l c k q a known leaf =
+      let owned = owned_by q (Empty l c k) a known leaf in
+      let inside : HasChunk a c × (k < 256) = ⊎_elim (λ z. z.1) (λ e. absurd (cc)) owned.1 in
+      empty_at l c k a leaf inside.0 inside.1 owned.0
+
+  -- and where a guest does
+  guest_states : (j q : ℕ) (v : Guest) (f : Fact) (a : Leaf) → IsAt guests j v → IsAt v.facts q f → IsAt o.book.leaves (list_of f) a → IsStated w v.birth f a
+  guest_states j q v f a at known leaf = let t = (s.known.seats j v at).facts q f known in subst (IsStated w v.birth f) (at_same o.book.leaves (list_of f) t.0 a t.1 leaf) t.2
+
+  pub guest_closed_is_shut : (j l q : ℕ) (v : Guest) (a : Leaf) → IsAt guests j v → IsAt v.facts q (Closed l) → IsAt o.book.leaves l a → is_shut a.stage ≡ true
+  guest_closed_is_shut j l q v a at known leaf = closed_at l a leaf (guest_states j q v (Closed l) a at known leaf).holds
+
+  pub guest_empty_is_shut : (j l c k q : ℕ) (v : Guest) (a : Leaf) → IsAt guests j v → IsAt v.facts q (Empty l c k) → IsAt o.book.leaves l a → is_shut a.stage ≡ true
+  guest_empty_is_shut j l c k q v a at known leaf =
+      let stated = guest_states j q v (Empty l c k) a at known leaf in
+      let inside : HasChunk a c × (k < 256) = stated.within in
+      empty_at l c k a leaf inside.0 inside.1 stated.holds
 
   -- an item of a shut list stands where the sweep has marked or will mark
   pub item_is_swept : (l c k x p f m q : ℕ) (a : Leaf) → IsAt o.facts q (Item l c k x) → IsAt o.book.leaves l a → a.stage ≡ Swept p f m
@@ -66,7 +90,7 @@ module _ (w : Words) (o : Owner) (guests : List Guest) (s : Sound w o guests) wh
       let some : (w.slot c k).value ≡ x + 1 = owned.0 in
       (inside.0.0, inside.0.1, inside.0.2, inside.1, stands z.0 z.1 inside.0.0 inside.0.1 inside.0.2 inside.1 some) where
         stands : IsStanding (w.claim l) (w.first l) w.next w.slot a → IsSwept (w.claim l) w.slot a f m → (y : Chain) (r : ℕ) → IsAt (chain_of a y) r c → k < 256 → (w.slot c k).value ≡ x + 1 → IsSweptPlace a f y (256 * r + k)
-        stands y z claimed_chain r here lt some = dite (dec_le f (256 * r + k)) (λ le. let e = z.past r c k here lt le in absurd (omega arith)) (λ n. omega arith)
+        stands y z claimed_chain r here lt some = dite (dec_le f (256 * r + k)) (λ le. let e : (w.slot c k).value ≡ 0 = ap (λ (n : Word). n.value) (z.past r c k here lt le) in absurd (omega arith)) (λ n. omega arith)
         stands y z owned_chain r here lt some = dite (dec_le a.used (256 * r + k)) (λ le. let e : (w.slot c k).value ≡ 0 = ap (λ (n : Word). n.value) (y.unused r c k here lt le) in absurd (omega arith)) (λ n. omega arith)
 
   -- a sweep that has not marked all goes on

@@ -112,7 +112,10 @@ module _ (claim : Word) (first : ℕ) (next : ℕ → ℕ) (slot : ℕ → ℕ �
         marked_owned = marked_owned_before z.1;
         unmarked = unmarked_behind z.1;
         unmarked_owned = unmarked_owned_behind z.1;
-        past = λ q d j at lt' le. value_on slot c k d j ∙ z.1.past q d j at lt' le;
+        past = λ q d j at lt' le. putting_slot slot c k (raised (slot c k)) d j (λ (n : Word). n ≡ blank)
+            (λ e e'. let t = own claimed_chain y q r c (subst (λ (i : ℕ). IsAt a.claimed q i) e at) here in let same = t.1 in
+            by_mark claimed_chain (raised (slot c k) ≡ blank) (sym t.0) (λ n. let n1 = n.1 in absurd (omega arith)))
+            (λ _. z.1.past q d j at lt' le);
         within_claims = z.1.within_claims;
         within_slots = enough y is_next;
       },

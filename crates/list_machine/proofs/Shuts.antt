@@ -20,6 +20,7 @@ use Rattle.list_machine.proofs.Puts.{put_here}
 use Rattle.list_machine.proofs.Lists.{at_set, each_set, at_set_same, at_left, at_more, at_last}
 use Rattle.list_machine.proofs.Stages.{as_open, swept_same, stage_chain, stage_chain_was, within_more}
 use Rattle.list_machine.proofs.Frames.{lists_frame_same, known_frame, of_leaf}
+use Rattle.list_machine.proofs.Bits.{word_by_parts}
 use Rattle.list_machine.proofs.Changes.{claim_elsewhere}
 use Rattle.list_machine.proofs.Claims.{claim_word_holds}
 use Rattle.list_machine.proofs.Guests.{owner_learns}
@@ -61,7 +62,7 @@ module _ (w : Words) (o : Owner) (guests : List Guest) (s : Sound w o guests) (l
         marked_owned = λ r c k q lt m'. absurd (omega arith);
         unmarked = λ r c k q lt m'. z.1 c k (claimed_chain, r, q) lt;
         unmarked_owned = λ r c k q lt m'. z.1 c k (owned_chain, r, q) lt;
-        past = λ r c k q lt f'. dite (ℕ_discrete (w.slot c k).value 0) (λ e. e) (λ ne. let b = z.0.filled r c k q lt ne in absurd (omega arith));
+        past = λ r c k q lt f'. word_by_parts _ _ _ _ (dite (ℕ_discrete (w.slot c k).value 0) (λ e. e) (λ ne. let b = z.0.filled r c k q lt ne in absurd (omega arith))) (z.1 c k (claimed_chain, r, q) lt);
         within_claims = omega arith;
         within_slots = omega arith;
       },

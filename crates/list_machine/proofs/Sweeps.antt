@@ -21,7 +21,7 @@ module _ (s : State) (sound : IsSound s) (l p f m : ℕ) (a : Leaf) (leaf : IsAt
 
   -- a slot with an item is at a place that the sweep marks
   item_place : (y : Chain) (r c k : ℕ) → IsAt (chain_of a y) r c → k < 256 → (s.words.slot c k).value ≢ 0 → IsSweptPlace a f y (256 * r + k)
-  item_place claimed_chain r c k here lt some = dite (dec_le f (256 * r + k)) (λ le. absurd (some (swept.1.past r c k here lt le))) (λ ne. omega arith)
+  item_place claimed_chain r c k here lt some = dite (dec_le f (256 * r + k)) (λ le. absurd (some (ap (λ (x : Word). x.value) (swept.1.past r c k here lt le)))) (λ ne. omega arith)
   item_place owned_chain r c k here lt some = dite (dec_le a.used (256 * r + k)) (λ le. absurd (some (ap (λ (x : Word). x.value) (swept.0.unused r c k here lt le)))) (λ ne. omega arith)
 
   -- and so is an item that a guest knows
@@ -42,6 +42,10 @@ module _ (s : State) (sound : IsSound s) (l p f m : ℕ) (a : Leaf) (leaf : IsAt
   pub is_unmarked : (y : Chain) (r c k : ℕ) → IsAt (chain_of a y) r c → k < 256 → m ≤ mark_index f y (256 * r + k) → (s.words.slot c k).high ≡ false
   is_unmarked claimed_chain r c k here lt high = swept.1.unmarked r c k here lt high
   is_unmarked owned_chain r c k here lt high = swept.1.unmarked_owned r c k here lt high
+
+  -- and no slot is that was not claimed before the shut
+  pub past_is_blank : (r c k : ℕ) → IsAt a.claimed r c → k < 256 → f ≤ 256 * r + k → s.words.slot c k ≡ blank
+  past_is_blank r c k here lt le = swept.1.past r c k here lt le
 
   -- so a blank one is not among them
   pub blank_is_ahead : (y : Chain) (r c k : ℕ) → IsAt (chain_of a y) r c → k < 256 → IsSweptPlace a f y (256 * r + k) → s.words.slot c k ≡ blank → m ≤ mark_index f y (256 * r + k)

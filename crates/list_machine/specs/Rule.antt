@@ -40,8 +40,8 @@ pub record IsSwept (claim : Word) (slot : ℕ → ℕ → Word) (a : Leaf) (foun
   pub marked_owned : (r c k : ℕ) → IsAt a.owned r c → k < 256 → found + (256 * r + k) < marks → (slot c k).high ≡ true
   pub unmarked : (r c k : ℕ) → IsAt a.claimed r c → k < 256 → marks ≤ 256 * r + k → (slot c k).high ≡ false
   pub unmarked_owned : (r c k : ℕ) → IsAt a.owned r c → k < 256 → marks ≤ found + (256 * r + k) → (slot c k).high ≡ false
-  -- what was claimed after the shut has no item
-  pub past : (r c k : ℕ) → IsAt a.claimed r c → k < 256 → found ≤ 256 * r + k → (slot c k).value ≡ 0
+  -- a place that was not claimed before the shut has no item and no mark
+  pub past : (r c k : ℕ) → IsAt a.claimed r c → k < 256 → found ≤ 256 * r + k → slot c k ≡ blank
   pub within_claims : found ≤ claim.value
   pub within_slots : marks ≤ found + a.used
 

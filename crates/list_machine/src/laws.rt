@@ -60,7 +60,7 @@ pub fn walks_are_short()
         → IsAt s.guests j v → IsWalk v chunks walked → length walked ≤ chunks }
 {}
 
-/// A law: a list that was found shut is shut, and so is one in which a slot was marked while it was
+/// A law: a list that a seat found shut is shut, and so is one in which a slot was marked while it was
 /// empty.
 pub fn late_lists_are_shut()
     ensures closed { (s : State) (l q : ℕ) (a : Leaf) → IsSound s
@@ -68,6 +68,12 @@ pub fn late_lists_are_shut()
         → is_shut a.stage ≡ true }
     ensures empty { (s : State) (l c k q : ℕ) (a : Leaf) → IsSound s
         → IsAt s.owner.facts q (Empty l c k) → IsAt s.owner.book.leaves l a
+        → is_shut a.stage ≡ true }
+    ensures guests_closed { (s : State) (j l q : ℕ) (v : Guest) (a : Leaf) → IsSound s
+        → IsAt s.guests j v → IsAt v.facts q (Closed l) → IsAt s.owner.book.leaves l a
+        → is_shut a.stage ≡ true }
+    ensures guests_empty { (s : State) (j l c k q : ℕ) (v : Guest) (a : Leaf) → IsSound s
+        → IsAt s.guests j v → IsAt v.facts q (Empty l c k) → IsAt s.owner.book.leaves l a
         → is_shut a.stage ≡ true }
 {}
 

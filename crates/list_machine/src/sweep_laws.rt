@@ -22,7 +22,8 @@ pub fn items_of_guests_are_swept()
 {}
 
 /// A law: of the places that a sweep marks, the first ones are marked, as many as it has made marks, and
-/// no other slot of the list is. So a place that is still blank has its mark to come.
+/// no other slot of the list is: one that was not claimed before the shut has neither a mark nor an item.
+/// So a place of the sweep that is still blank has its mark to come.
 pub fn first_places_are_marked()
     ensures marked { (s : State) (l c k p f m r : ℕ) (y : Chain) (a : Leaf) → IsSound s
         → IsAt s.owner.book.leaves l a → a.stage ≡ Swept p f m → IsAt (chain_of a y) r c → k < 256
@@ -31,6 +32,9 @@ pub fn first_places_are_marked()
     ensures unmarked { (s : State) (l c k p f m r : ℕ) (y : Chain) (a : Leaf) → IsSound s
         → IsAt s.owner.book.leaves l a → a.stage ≡ Swept p f m → IsAt (chain_of a y) r c → k < 256
         → m ≤ mark_index f y (256 * r + k) → (s.words.slot c k).high ≡ false }
+    ensures past { (s : State) (l c k p f m r : ℕ) (a : Leaf) → IsSound s
+        → IsAt s.owner.book.leaves l a → a.stage ≡ Swept p f m → IsAt a.claimed r c → k < 256
+        → f ≤ 256 * r + k → s.words.slot c k ≡ blank }
     ensures blank { (s : State) (l c k p f m r : ℕ) (y : Chain) (a : Leaf) → IsSound s
         → IsAt s.owner.book.leaves l a → a.stage ≡ Swept p f m → IsAt (chain_of a y) r c → k < 256
         → IsSweptPlace a f y (256 * r + k) → s.words.slot c k ≡ blank

@@ -10,4 +10,5 @@ pub mod PlainLaws
 pub mod ReclaimLaws
 pub mod RowLaws
 pub mod SeatLaws
+pub mod SlotLaws
 pub mod StoreLaws

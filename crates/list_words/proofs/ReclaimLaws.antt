@@ -1,6 +1,7 @@
 -- Lists over vectors that are cleared one after another, in the order in which they were shut.
-use Rattle.std.proofs.Common.{◌≡◌, ◌≢◌, ℕ, suc, ◌+◌, ◌<◌, Bool, true, false, cond, List, [], ◌∷◌, ◌++◌, length, map, set, get_or, take, Option, ap, refl, sym, subst, ◌∙◌, arith}
+use Rattle.std.proofs.Common.{◌≡◌, ◌≢◌, ℕ, suc, ◌+◌, ◌<◌, inl, inr, Bool, true, false, cond, List, [], ◌∷◌, ◌++◌, length, map, set, get_or, take, Option, ap, refl, sym, subst, ◌∙◌, arith}
 use Rattle.std.specs.List.{Contains, sum_by}
+use Rattle.std.proofs.lemmas.Bool.{cases_eq}
 use Rattle.std.proofs.lemmas.List.{map-set, length-append, length-map}
 use Rattle.std.proofs.lemmas.List.Elements.{Contains-append_left, Contains-append_right}
 use Rattle.std.proofs.lemmas.List.Sums.{sum_by-cons}
@@ -10,7 +11,7 @@ use Rattle.list_words.specs.PlainRows.{PlainList, row_of, emptied_list}
 use Rattle.list_words.specs.Plain.{Plain, list_in, store_of, Knows, StandsIn, chunk_count, held_chunks, next_list, next_cleared}
 use Rattle.list_words.specs.declared.leaf_lists.Phase.TheVariants.{Shut}
 use Rattle.list_words.proofs.ClearLaws.{IsClearing, clearing_more, clearing_none, contains_last}
-use Rattle.list_words.proofs.PlainLaws.{row-map, list_in-set_other, shut_within}
+use Rattle.list_words.proofs.PlainLaws.{row-map, list_in-set_other, list_in-set_same, shut_within}
 
 no_marks : (b : Bool) → (let xs : List (Option ℕ) = cond b [] [] in xs) ≡ []
 no_marks true = refl
@@ -42,9 +43,10 @@ pub record IsClearingOf (p q : Plain) : Type 0 where
   pub stores : IsClearing (store_of p) (store_of q)
   pub known : (l c x : ℕ) → (Contains (take q.cleared p.order) l → ⊥) → Knows p l c x → Knows q l c x
   pub stays : (l : ℕ) → (Contains (take q.cleared p.order) l → ⊥) → list_in q.lists l ≡ list_in p.lists l
+  pub shut : (l : ℕ) → (list_in p.lists l).phase ≡ Shut → (list_in q.lists l).phase ≡ Shut
 
 pub clearing_start : (p : Plain) → IsClearingOf p p
-clearing_start p = record { stores = clearing_none (store_of p); known = λ l c x uncleared known. known; stays = λ l uncleared. refl }
+clearing_start p = record { stores = clearing_none (store_of p); known = λ l c x uncleared known. known; stays = λ l uncleared. refl; shut = λ l phase. phase }
 
 pub clearing_next : (p q : Plain) → IsClearingOf p q → q.cleared < length q.order → Unreached q.out q.cleared → (list_in q.lists (next_list q)).phase ≡ Shut → IsClearingOf p (next_cleared q)
 clearing_next p q done some nobody shut_now =
@@ -65,4 +67,8 @@ clearing_next p q done some nobody shut_now =
       stores = subst (IsClearing (store_of p)) (sym (store-cleared q)) (clearing_more (store_of p) (store_of q) done.stores some nobody phase within);
       known = λ m c x uncleared known. subst (λ (b : PlainList). StandsIn b c x) (sym (list_in-set_other q.lists l m e (other m uncleared))) (done.known m c x (before m uncleared) known);
       stays = λ m uncleared. list_in-set_other q.lists l m e (other m uncleared) ∙ done.stays m (before m uncleared);
+      shut = λ m phase. elim (cases_eq m l) [
+        | inl same ↦ ap (λ (b : PlainList). b.phase) (ap (list_in (set q.lists l e)) same ∙ list_in-set_same q.lists l e low) ∙ shut_now
+        | inr apart ↦ ap (λ (b : PlainList). b.phase) (list_in-set_other q.lists l m e apart) ∙ done.shut m phase
+      ];
     }

@@ -8,7 +8,7 @@ use Rattle.std.proofs.lemmas.Bool.{cases_eq, cases_lt}
 use Rattle.std.proofs.lemmas.List.{length-set, get_or-set_same, get_or-set_other, get_or_past, set_past}
 use Rattle.list_machine.specs.declared.views.Grant.{Grant}
 use Rattle.list_machine.specs.Grants.{granted_in}
-use Rattle.list_words.specs.Store.{Store, Row, IsCleared, IsKeptOrCleared, IsOpen, IsReclaimed, IsShut, SameBesidesGranted, chunks_of, clear_rows, emptied, grant_rows, held_in, held_of, is_shut, more_granted, no_row, row, row_in, shut_now, shut_with, with_row}
+use Rattle.list_words.specs.Store.{Store, Row, IsCleared, IsKeptOrCleared, IsOpen, IsReclaimed, IsShut, SameBesidesGranted, chunks_of, clear_rows, emptied, grant_rows, held_in, held_of, is_shut, more_granted, no_row, opened, roomier, row, row_in, shut_now, shut_with, with_row}
 use Rattle.list_words.specs.declared.leaf_lists.Phase.{Phase}
 use Rattle.list_words.specs.declared.leaf_lists.Phase.TheVariants.{Fresh, Open, Shut}
 
@@ -87,6 +87,21 @@ pub open_holds : (s : Store) (l : ℕ) (r : Row) → IsOpen s l → r.phase ≡ 
 open_holds s l r o open_now =
     let e : sum_by held_in (set s.rows l r) + held_in (row s l) ≡ sum_by held_in s.rows + held_in r = sum_by-set held_in s.rows l r no_row (open_row s l o) in
     omega (arith, e, open_held (row s l) o, open_held r open_now)
+
+-- a list that was never opened is opened, or there is room for more chunks of a list
+pub fresh_holds : (s : Store) (l : ℕ) → l < length s.rows → (row s l).phase ≡ Fresh → held_of (with_row s l (opened (row s l))) ≡ held_of s
+fresh_holds s l low fresh_now =
+    let e : sum_by held_in (set s.rows l (opened (row s l))) + held_in (row s l) ≡ sum_by held_in s.rows + held_in (opened (row s l)) = sum_by-set held_in s.rows l (opened (row s l)) no_row low in
+    let none : held_in (row s l) ≡ 0 = ap (λ (p : Phase). cond (is_shut p) (length (chunks_of (row s l))) 0) fresh_now in
+    let still : held_in (opened (row s l)) ≡ 0 = refl in
+    omega (arith, e, none, still)
+
+pub roomier_holds : (s : Store) (l claimed owned : ℕ) → l < length s.rows → held_of (with_row s l (roomier (row s l) claimed owned)) ≡ held_of s
+roomier_holds s l claimed owned low =
+    let r : Row = roomier (row s l) claimed owned in
+    let e : sum_by held_in (set s.rows l r) + held_in (row s l) ≡ sum_by held_in s.rows + held_in r = sum_by-set held_in s.rows l r no_row low in
+    let same : held_in r ≡ held_in (row s l) = refl in
+    omega (arith, e, same)
 
 pub shut_holds : (s : Store) (l : ℕ) (marked : List (Option ℕ)) → IsOpen s l → held_of (shut_now s l marked) ≡ held_of s + length (chunks_of (row s l))
 shut_holds s l marked o =

@@ -9,12 +9,12 @@ use Rattle.std.proofs.lemmas.List.Elements.{Contains-append_cases, Contains-appe
 use Rattle.std.proofs.lemmas.List.Sums.{sum_by-cons, sum_by-le-sum_by}
 use Rattle.chunk_pool.specs.Numbers.{Numbers, IsFree}
 use Rattle.list_words.specs.Filing.{Filing}
-use Rattle.list_words.specs.Store.{Store, Row, AreMarks, IsOpen, IsShut, IsStanding, Keeps, Stood, chunks_of, found_in, grant_rows, is_shut, more_granted, row, shut_now, shut_with, with_chunk, with_row}
+use Rattle.list_words.specs.Store.{Store, Row, AreMarks, IsOpen, IsShut, IsStanding, Keeps, chunks_of, found_in, grant_rows, is_shut, more_granted, row, shut_now, shut_with, with_chunk, with_row}
 use Rattle.list_words.specs.PlainRows.{emptied_list, granted_list, lengthened_list, linked_list, placed_list, shut_list}
 use Rattle.list_words.specs.PlainGrants.{MayGrant, grant_lists}
 use Rattle.list_machine.specs.declared.views.Grant.{Grant}
 use Rattle.list_words.specs.PlainRows.{PlainList, items_of, no_list, row_of}
-use Rattle.list_words.specs.Plain.{Plain, Bears, BearsOut, Knows, StandsAt, StandsIn, all_chunks, chain, chain_items, chunk_at, chunk_count, held_chunks, list_in, next_cleared, next_list, shut_count, store_of, with_list, SameFiled}
+use Rattle.list_words.specs.Plain.{Plain, Bears, BearsOut, HasSlot, Knows, StandsAt, StandsIn, all_chunks, chain, chain_items, chunk_at, chunk_count, held_chunks, list_in, next_cleared, next_list, shut_count, store_of, with_list, SameFiled}
 use Rattle.list_words.specs.PlainKept.{AreHomed, AreOrdered, AreSummed}
 use Rattle.list_words.specs.declared.leaf_lists.Answer.{Answer}
 use Rattle.list_words.specs.declared.leaf_lists.Filed.{Filed}
@@ -24,7 +24,7 @@ use Rattle.list_words.specs.declared.leaf_lists.Phase.{Phase}
 use Rattle.list_words.specs.declared.leaf_lists.Phase.TheVariants.{Fresh, Open, Shut}
 use Rattle.list_words.specs.declared.plain_homes.Home.{Home}
 use Rattle.list_words.proofs.FreshLaws.{no_chunk_there}
-use Rattle.list_words.proofs.Places.{append_none, slice_get-last, slice_get-more, some_at_map}
+use Rattle.list_words.proofs.Places.{append_none, contains_at, slice_get-last, slice_get-more, number_at_map}
 use Rattle.list_words.proofs.PlainLaws.{count-le, homed-set, list_in-set_other, list_in-set_same, open_within, ordered-set, row-map, store-with_list, summed-set}
 
 -- ---- the list that a call changes
@@ -119,9 +119,6 @@ found_items p l shut_now =
     let phase : (list_in p.lists l).phase ≡ Shut = sym (ap (λ (r : Row). r.phase) (row-map p.lists l)) ∙ shut_now in
     ap found_in (row-map p.lists l) ∙ found-row_of (list_in p.lists l) phase
 
-contains_at : (xs : List ℕ) (i x : ℕ) → slice_get xs i ≡ Some x → Contains xs x
-contains_at xs i x at = (i, slice_get_within xs i x at, get_or_from_slice_get xs i x x at)
-
 -- an item that stands in a slot is one of the list's
 pub stands_among : (owned : Bool) (q : PlainList) (item c i : ℕ) → StandsAt owned q item c i → Contains (items_of q) item
 stands_among true q item c i at = Contains-append_right q.filed q.placed item (contains_at q.placed (256 * at.rank + i) item at.stands)
@@ -135,7 +132,7 @@ stands_chunk p l c x known = subst (λ (cs : List ℕ). Contains cs c) (sym (ap 
     inside true q r here = Contains-append_right q.claimed q.owned c (contains_at q.owned r c here)
     inside false q r here = Contains-append_left q.claimed q.owned c (contains_at q.claimed r c here)
 
-all_at : (P : Answer → Type 0) (xs : List Answer) (a : Answer) → All P xs → Contains xs a → P a
+pub all_at : (P : Answer → Type 0) (xs : List Answer) (a : Answer) → All P xs → Contains xs a → P a
 all_at P xs a all inside = subst P inside.2 (all inside.0 a inside.1)
 
 -- what the answers of a filer show that are borne out
@@ -294,24 +291,25 @@ shut_found p l old new low shut_is =
     let here : list_in (set p.lists l new) l ≡ shut_list old = list_in-set_same p.lists l new low ∙ shut_is in
     ap found_in (row-map (set p.lists l new) l ∙ ap row_of here) ∙ found-row_of (shut_list old) refl
 
+-- what is marked in a list that is shut
+pub marked_all : (q : PlainList) → q.phase ≡ Shut → (row_of q).marked ≡ map Some q.filed
+marked_all q shut_now = ap (λ s. let xs : List (Option ℕ) = cond (is_shut s) (map Some q.filed) [] in xs) shut_now
+
 -- what the sweep showed: the items in the slots of both chains
-pub swept_marks : (q : PlainList) → q.phase ≡ Shut → length q.filed ≤ 256 * length q.claimed → length q.placed ≤ 256 * length q.owned → AreMarks (Stood (StandsIn q)) (length q.filed) (row_of q)
-swept_marks q shut_now filed placed = record {
-  counted = ap length marked_is ∙ length-map q.filed Some;
-  claimed = λ i y at. let stands : slice_get (map Some q.filed) i ≡ Some y = ap (λ (ys : List (Option ℕ)). slice_get ys i) (sym marked_is) ∙ at in
-      let low : i < length (map Some q.filed) = slice_get_within (map Some q.filed) i y stands in
-      let long : length (map Some q.filed) ≡ length q.filed = length-map q.filed Some in
+pub swept_slots : (q : PlainList) → q.phase ≡ Shut → length q.filed ≤ 256 * length q.claimed → length q.placed ≤ 256 * length q.owned → AreMarks (HasSlot q) (length q.filed) (row_of q)
+swept_slots q shut_now filed placed = record {
+  counted = ap length (marked_all q shut_now) ∙ length-map q.filed Some;
+  claimed = λ i y at.
+      let item : (x : ℕ) × (y ≡ Some x) × (slice_get q.filed i ≡ Some x) = number_at_map q.filed i y (ap (λ (ys : List (Option ℕ)). slice_get ys i) (sym (marked_all q shut_now)) ∙ at) in
+      let low : i < length q.filed = slice_get_within q.filed i item.0 item.2 in
       let chunk : slice_get q.claimed (i / 256) ≡ Some (get_or q.claimed (i / 256) 0) = slice_get-get_or q.claimed (i / 256) 0 (omega arith) in
-      (get_or q.claimed (i / 256) 0, chunk, λ x is. (false, i % 256, record { rank = i / 256; chunk = chunk; within = omega arith; stands = at_place q.filed i x (some_at_map q.filed i x (stands ∙ ap Some is)) }));
+      (get_or q.claimed (i / 256) 0, chunk, subst (HasSlot q (get_or q.claimed (i / 256) 0) (i % 256)) (sym item.1) (false, record { rank = i / 256; chunk = chunk; within = omega arith; stands = at_place q.filed i item.0 item.2 }));
   owned = λ i x at.
       let low : i < length q.placed = slice_get_within q.placed i x at in
       let chunk : slice_get q.owned (i / 256) ≡ Some (get_or q.owned (i / 256) 0) = slice_get-get_or q.owned (i / 256) 0 (omega arith) in
-      (get_or q.owned (i / 256) 0, chunk, λ z is. (true, i % 256, record { rank = i / 256; chunk = chunk; within = omega arith; stands = at_place q.placed i z (at ∙ is) }));
+      (get_or q.owned (i / 256) 0, chunk, (true, record { rank = i / 256; chunk = chunk; within = omega arith; stands = at_place q.placed i x at }));
 }
   where
-    marked_is : (row_of q).marked ≡ map Some q.filed
-    marked_is = ap (λ s. let xs : List (Option ℕ) = cond (is_shut s) (map Some q.filed) [] in xs) shut_now
-
     at_place : (xs : List ℕ) (i x : ℕ) → slice_get xs i ≡ Some x → slice_get xs (256 * (i / 256) + i % 256) ≡ Some x
     at_place xs i x at = let place : 256 * (i / 256) + i % 256 ≡ i = omega arith in ap (slice_get xs) place ∙ at
 
@@ -346,11 +344,11 @@ rows-grants (g ∷ gs) lists =
     rows-grants gs (set lists g.list (granted_list (list_in lists g.list) g.n))
     ∙ ap (grant_rows gs) (map-set row_of lists g.list (granted_list (list_in lists g.list) g.n) ∙ ap (λ (r : Row). set (map row_of lists) g.list (more_granted r g.n)) (sym (row-map lists g.list)))
 
-stands_granted : (owned : Bool) (q : PlainList) (n x c i : ℕ) → StandsAt owned q x c i → StandsAt owned (granted_list q n) x c i
+pub stands_granted : (owned : Bool) (q : PlainList) (n x c i : ℕ) → StandsAt owned q x c i → StandsAt owned (granted_list q n) x c i
 stands_granted owned q n x c i at = stands_same owned q (granted_list q n) refl refl x c i at
 
 -- what each grant leaves as it is stays
-grants_keep : (P : PlainList → Type 0) → ((q : PlainList) (n : ℕ) → P q → P (granted_list q n)) → (gs : List Grant) (lists : List PlainList) (l : ℕ) → P (list_in lists l) → P (list_in (grant_lists gs lists) l)
+pub grants_keep : (P : PlainList → Type 0) → ((q : PlainList) (n : ℕ) → P q → P (granted_list q n)) → (gs : List Grant) (lists : List PlainList) (l : ℕ) → P (list_in lists l) → P (list_in (grant_lists gs lists) l)
 grants_keep P one [] lists l holds = holds
 grants_keep P one (g ∷ gs) lists l holds = grants_keep P one gs (set lists g.list (granted_list (list_in lists g.list) g.n)) l (elim (cases_eq l g.list) [
   | inr other ↦ subst P (sym (list_in-set_other lists g.list l (granted_list (list_in lists g.list) g.n) other)) holds

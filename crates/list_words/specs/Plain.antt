@@ -87,6 +87,19 @@ StandsIn p c item = (owned : Bool) × (i : ℕ) × StandsAt owned p item c i
 abbrev pub Knows : Plain → ℕ → ℕ → ℕ → Type 0
 Knows p l c x = StandsIn (list_in p.lists l) c x
 
+-- and of each slot with an item, that it has this one. No slot was claimed and left empty
+abbrev pub HasSlot : PlainList → ℕ → ℕ → Option ℕ → Type 0
+HasSlot q c k None = ⊥
+HasSlot q c k (Some x) = (owned : Bool) × StandsAt owned q x c k
+
+abbrev pub Shown : Plain → ℕ → ℕ → ℕ → Option ℕ → Type 0
+Shown p l c k y = HasSlot (list_in p.lists l) c k y
+
+-- each item stays in its slot, and a list that was shut stays shut
+pub record StayFiled (before after : List PlainList) : Type 0 where
+  pub stands : (l : ℕ) (owned : Bool) (x c i : ℕ) → StandsAt owned (list_in before l) x c i → StandsAt owned (list_in after l) x c i
+  pub shut : (l : ℕ) → (list_in before l).phase ≡ Shut → (list_in after l).phase ≡ Shut
+
 -- how many places were claimed in a list: each has its item
 abbrev pub claims_in : Plain → ℕ → ℕ
 claims_in p l = length (list_in p.lists l).filed

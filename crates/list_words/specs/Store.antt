@@ -231,6 +231,14 @@ pub record Seat : Type 0 where
 abbrev pub Keeps : (ℕ → ℕ → ℕ → Type 0) → (ℕ → ℕ → ℕ → Type 0) → Type 0
 Keeps before after = (l c x : ℕ) → before l c x → after l c x
 
+-- of no slot is it forgotten what it has
+abbrev pub KeepsSlots : (ℕ → ℕ → ℕ → Option ℕ → Type 0) → (ℕ → ℕ → ℕ → Option ℕ → Type 0) → Type 0
+KeepsSlots before after = (l c k : ℕ) (y : Option ℕ) → before l c k y → after l c k y
+
+-- a chunk has one place in the chains of all lists
+abbrev pub StandOnce : Store → Type 0
+StandOnce s = (l m i j c : ℕ) → slice_get (chunks_of (row s l)) i ≡ Some c → slice_get (chunks_of (row s m)) j ≡ Some c → (l ≡ m) × (i ≡ j)
+
 -- What a sweep showed of the slots of its list, where `shows c k y` says what is known of the slot k of the chunk c: this
 -- item, or that it was marked while it was empty. There is one mark for each claim that the shut found, each of the claimed
 -- slot at its place, and each placed item is known in the owned slot at its place.
@@ -245,6 +253,24 @@ pub record IsStanding (known : ℕ → ℕ → Type 0) (r : Row) (c x : ℕ) : T
   pub rank : ℕ
   pub chunk : slice_get r.claimed rank ≡ Some c
   pub found : r.phase ≡ Shut → Contains (found_in r) x
+
+-- no two slots have this item
+abbrev pub IsInOneSlot : (ℕ → ℕ → Option ℕ → Type 0) → ℕ → Type 0
+IsInOneSlot shows x = (c k d m : ℕ) → shows c k (Some x) → shows d m (Some x) → (c ≡ d) × (k ≡ m)
+
+-- the item that was filed is known to stand in the slot k of the chunk c, which has its place in the claimed chain; and if the
+-- list is shut, this place is one of those that its shut found claimed, and the mark there found the item
+pub record IsFiledAt (shows : ℕ → ℕ → Option ℕ → Type 0) (claims : ℕ) (r : Row) (c k x : ℕ) : Type 0 where
+  pub shown_there : shows c k (Some x)
+  pub within : k < 256
+  pub rank : ℕ
+  pub chunk : slice_get r.claimed rank ≡ Some c
+  pub marked : r.phase ≡ Shut → (256 * rank + k < claims) × (slice_get r.marked (256 * rank + k) ≡ Some (Some x))
+
+-- the sweep of a shut list found the item in the slot k of the chunk c: by the mark of that place, or as the item placed there
+pub data IsFoundAt (r : Row) (c k x : ℕ) : Type 0 where
+  by_mark : (rank : ℕ) → slice_get r.claimed rank ≡ Some c → slice_get r.marked (256 * rank + k) ≡ Some (Some x) → IsFoundAt r c k x
+  as_placed : (rank : ℕ) → slice_get r.owned rank ≡ Some c → slice_get r.placed (256 * rank + k) ≡ Some x → IsFoundAt r c k x
 
 -- the item that a slot of the chunk showed, if any, is known to stand in the chunk
 abbrev pub Stood : (ℕ → ℕ → Type 0) → ℕ → ℕ → Option ℕ → Type 0

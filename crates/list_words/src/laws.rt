@@ -1,16 +1,22 @@
 //! Laws of the store, as clauses of functions without code: what its rows are after a call.
-ghost use Rattle.std.specs.Prelude.{◌≡◌, ◌≢◌, ℕ, ◌+◌, ◌<◌, List, Option, Contains, length};
+ghost use Rattle.std.specs.Prelude.{◌≡◌, ◌≢◌, ℕ, ◌+◌, ◌<◌, List, Option, Some, Contains, length, slice_get};
 ghost use Rattle.list_machine.specs.declared.views.Grant.{Grant};
 ghost use Rattle.list_machine.specs.Grants.{granted_in};
-ghost use Rattle.list_words.specs.Store.{IsCleared, IsKeptOrCleared, IsOpen, IsReclaimed, IsShut, Row, SameBesidesGranted, Store, admitted, chunks_of, held_of, row, shut_now, shut_with, with_chunk, with_row};
-ghost use Rattle.list_words.specs.declared.leaf_lists.Phase.TheVariants.{Open};
+ghost use Rattle.list_words.specs.Store.{AreMarks, IsCleared, IsInOneSlot, IsKeptOrCleared, IsOpen, IsReclaimed, IsShut, Row, SameBesidesGranted, Store, admitted, chunks_of, found_in, held_of, opened, roomier, row, shut_now, shut_with, with_chunk, with_row};
+ghost use Rattle.list_words.specs.declared.leaf_lists.Phase.TheVariants.{Fresh, Open};
+
+use crate::LeafLists;
 
 /// A law: a list that takes items is one of the lists. Where the row of one list changes, the rows of the others stay.
+/// No more chunks are held where a list took items before and takes them then, where it is opened, and where there is
+/// room for more of its chunks.
 pub fn rows_after_a_change()
     ensures within { (s : Store) (l : ℕ) → IsOpen s l → l < length s.rows }
     ensures here { (s : Store) (l : ℕ) (r : Row) → l < length s.rows → row (with_row s l r) l ≡ r }
     ensures others { (s : Store) (l m : ℕ) (r : Row) → m ≢ l → row (with_row s l r) m ≡ row s m }
     ensures held { (s : Store) (l : ℕ) (r : Row) → IsOpen s l → r.phase ≡ Open → held_of (with_row s l r) ≡ held_of s }
+    ensures opened { (s : Store) (l : ℕ) → l < length s.rows → (row s l).phase ≡ Fresh → held_of (with_row s l (opened (row s l))) ≡ held_of s }
+    ensures reserved { (s : Store) (l claimed owned : ℕ) → l < length s.rows → held_of (with_row s l (roomier (row s l) claimed owned)) ≡ held_of s }
 {}
 
 /// A law: the rows after a chunk was taken for a chain of one list. No more chunks are held.
@@ -44,3 +50,11 @@ pub fn rows_after_a_reclaim()
     ensures open { (s t : Store) (l : ℕ) → IsReclaimed s t → ((m : ℕ) → Contains s.order m → IsShut s m) → IsOpen s l → row t l ≡ row s l }
     ensures shut { (s t : Store) (l : ℕ) → IsReclaimed s t → ((m : ℕ) → Contains s.order m → IsShut s m) → Contains t.order l → IsShut t l }
 {}
+
+/// A law of every kind of lists: an item that is known in one slot of a list alone is found once by the list's sweep.
+pub fn items_are_found_once<L: LeafLists>(lists: &L)
+    ensures { (l i j x : ℕ) → AreMarks (L.shown lists.now l) (L.claims lists.now l) (row (L.store lists.now) l) → IsInOneSlot (L.shown lists.now l) x
+        → slice_get (found_in (row (L.store lists.now) l)) i ≡ Some x → slice_get (found_in (row (L.store lists.now) l)) j ≡ Some x → i ≡ j }
+{
+    lists.slots_agree();
+}

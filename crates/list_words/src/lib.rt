@@ -15,8 +15,8 @@ mod within;
 
 pub use births::count_off;
 pub use laws::{
-    rows_after_a_change, rows_after_a_link, rows_after_a_reclaim, rows_after_a_shut,
-    rows_after_grants,
+    items_are_found_once, rows_after_a_change, rows_after_a_link, rows_after_a_reclaim,
+    rows_after_a_shut, rows_after_grants,
 };
 pub use leaf_lists::{Answer, Filed, Filings, LeafLists, Phase, Seen};
 pub use list_machine::Grant;

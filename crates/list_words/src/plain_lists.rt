@@ -1,12 +1,12 @@
-ghost use Rattle.std.specs.Prelude.{◌≡◌, ◌≢◌, ℕ, suc, ◌+◌, ◌-◌, ◌*◌, ◌/◌, ◌%◌, ◌^◌, ◌<◌, ◌≤◌, ◌↔◌, Bool, if◌then◌else◌, All, AllPairs, replicate, List, [], ◌++◌, Option, Some, length, slice_get, Contains, IfOk, OnOk, OnErr, IsTrue, vec_len};
+ghost use Rattle.std.specs.Prelude.{◌≡◌, ◌≢◌, ℕ, suc, ◌+◌, ◌-◌, ◌*◌, ◌/◌, ◌%◌, ◌^◌, ◌<◌, ◌≤◌, ◌↔◌, Bool, if◌then◌else◌, All, AllPairs, replicate, List, [], ◌++◌, Option, Some, length, slice_get, slice_index, Contains, IfOk, OnOk, OnErr, IsTrue, vec_len};
 ghost use Rattle.list_machine.specs.Words.{decode};
 ghost use Rattle.list_machine.specs.declared.views.Grant.{Grant};
 ghost use Rattle.list_machine.specs.Grants.{granted_in_all};
-ghost use Rattle.list_words.specs.Filing.{HasGrant, answered};
-ghost use Rattle.list_words.specs.Plain.{Bears, BearsOut, Knows, SameFiled, Saw, chunk_at, claims_in, fresh_plain, list_in, next_cleared, next_list, seat_of, slot_word, store_of, with_list};
+ghost use Rattle.list_words.specs.Filing.{Filing, HasGrant, answered};
+ghost use Rattle.list_words.specs.Plain.{Bears, BearsOut, Knows, SameFiled, Saw, Shown, StayFiled, chunk_at, claims_in, fresh_plain, list_in, next_cleared, next_list, seat_of, slot_word, store_of, with_list};
 ghost use Rattle.list_words.specs.PlainRows.{filed_list, items_of, no_list};
 ghost use Rattle.list_words.specs.PlainGrants.{MayGrant, grant_lists};
-ghost use Rattle.list_words.specs.Store.{AreMarks, IsCleared, IsInNoChain, IsOpen, IsReclaimed, IsShut, IsStanding, Keeps, MayAdmit, Stood, Unreached, admitted, birth_now, chunks_of, found_in, lengthened, linked, one_less, one_more, opened, placed_in, roomier, row, seats_out, shut_now, with_chunk, with_filer_room, with_row};
+ghost use Rattle.list_words.specs.Store.{AreMarks, IsCleared, IsFiledAt, IsFoundAt, IsInNoChain, IsOpen, IsReclaimed, IsShut, IsStanding, Keeps, KeepsSlots, MayAdmit, StandOnce, Stood, Unreached, admitted, birth_now, chunks_of, found_in, lengthened, linked, one_less, one_more, opened, placed_in, roomier, row, seats_out, shut_now, with_chunk, with_filer_room, with_row};
 ghost use Rattle.list_words.specs.declared.leaf_lists.Filed.TheVariants.{At, Late};
 ghost use Rattle.list_words.specs.declared.leaf_lists.Answer.{Answer};
 ghost use Rattle.list_words.specs.declared.leaf_lists.Seen.{Seen};
@@ -169,7 +169,7 @@ impl PlainLists {
 }
 
 impl LeafLists for PlainLists {
-    ghost use Rattle.list_words.specs.Plain.{Knows, BearsOut, Saw, claims_in, seat_of, store_of};
+    ghost use Rattle.list_words.specs.Plain.{Knows, BearsOut, Saw, Shown, claims_in, seat_of, store_of};
 
     type Filer = PlainFiler;
 
@@ -178,6 +178,8 @@ impl LeafLists for PlainLists {
     ghost store = { store_of };
 
     ghost knows = { Knows };
+
+    ghost shown = { Shown };
 
     ghost claims = { claims_in };
 
@@ -206,6 +208,9 @@ impl LeafLists for PlainLists {
         ensures ok { OnOk result (store_of self.new ≡ with_row (store_of self.old) list (roomier (row (store_of self.old) list) claimed owned)) }
         ensures err { OnErr result (store_of self.new ≡ store_of self.old) }
         ensures known { Keeps (Knows self.old) (Knows self.new) }
+        ensures kept { KeepsSlots (Shown self.old) (Shown self.new) }
+        ensures borne { (f : Filing) → BearsOut self.old f → BearsOut self.new f }
+        ensures stays { StayFiled self.old.lists self.new.lists }
         ensures same_filed { SameFiled self.old self.new }
     {
         let row = &mut self.rows[list as usize];
@@ -218,6 +223,9 @@ impl LeafLists for PlainLists {
         requires new { (row (store_of self.old) list).phase ≡ Fresh }
         ensures store { store_of self.new ≡ with_row (store_of self.old) list (opened (row (store_of self.old) list)) }
         ensures known { Keeps (Knows self.old) (Knows self.new) }
+        ensures kept { KeepsSlots (Shown self.old) (Shown self.new) }
+        ensures borne { (f : Filing) → BearsOut self.old f → BearsOut self.new f }
+        ensures stays { StayFiled self.old.lists self.new.lists }
         ensures same_filed { SameFiled self.old self.new }
     {
         let row = &mut self.rows[list as usize];
@@ -230,6 +238,9 @@ impl LeafLists for PlainLists {
         requires free { 0 < (store_of self.old).free }
         ensures store { (c : ℕ) × (c < (store_of self.old).chunks) × IsInNoChain (store_of self.old) c × (store_of self.new ≡ with_chunk (store_of self.old) list (linked (row (store_of self.old) list) c)) }
         ensures known { Keeps (Knows self.old) (Knows self.new) }
+        ensures kept { KeepsSlots (Shown self.old) (Shown self.new) }
+        ensures borne { (f : Filing) → BearsOut self.old f → BearsOut self.new f }
+        ensures stays { StayFiled self.old.lists self.new.lists }
         ensures same_filed { SameFiled self.old self.new }
     {
         let Some(chunk) = self.pool.take() else {
@@ -250,6 +261,9 @@ impl LeafLists for PlainLists {
         requires free { 0 < (store_of self.old).free }
         ensures store { (c : ℕ) × (c < (store_of self.old).chunks) × IsInNoChain (store_of self.old) c × (store_of self.new ≡ with_chunk (store_of self.old) list (lengthened (row (store_of self.old) list) c)) }
         ensures known { Keeps (Knows self.old) (Knows self.new) }
+        ensures kept { KeepsSlots (Shown self.old) (Shown self.new) }
+        ensures borne { (f : Filing) → BearsOut self.old f → BearsOut self.new f }
+        ensures stays { StayFiled self.old.lists self.new.lists }
         ensures same_filed { SameFiled self.old self.new }
     {
         let Some(chunk) = self.pool.take() else {
@@ -271,7 +285,11 @@ impl LeafLists for PlainLists {
         ensures chunk { slice_get (row (store_of self.old) list).owned (length (row (store_of self.old) list).placed / 256) ≡ Some result.0 }
         ensures slot { result.1 ≡ length (row (store_of self.old) list).placed % 256 }
         ensures placed { Knows self.new list result.0 item }
+        ensures shown { Shown self.new list result.0 result.1 (Some item) }
         ensures known { Keeps (Knows self.old) (Knows self.new) }
+        ensures kept { KeepsSlots (Shown self.old) (Shown self.new) }
+        ensures borne { (f : Filing) → BearsOut self.old f → BearsOut self.new f }
+        ensures stays { StayFiled self.old.lists self.new.lists }
         ensures same_filed { SameFiled self.old self.new }
     {
         let row = &mut self.rows[list as usize];
@@ -283,11 +301,15 @@ impl LeafLists for PlainLists {
         requires room { vec_len out.old + 256 * length (chunks_of (row (store_of self.old) list)) ≤ vec_capacity out.old }
         ensures store { (marked : List (Option ℕ)) × (length marked ≤ (row (store_of self.old) list).granted) × (store_of self.new ≡ shut_now (store_of self.old) list marked) }
         ensures found { out.new.items ≡ out.old.items ++ found_in (row (store_of self.new) list) }
+        ensures slots { AreMarks (Shown self.new list) (claims_in self.new list) (row (store_of self.new) list) }
         ensures marks { AreMarks (Stood (Knows self.new list)) (claims_in self.new list) (row (store_of self.new) list) }
         ensures stands { (x : ℕ) → Contains (found_in (row (store_of self.new) list)) x → (c : ℕ) × Knows self.new list c x }
         ensures swept { (c x : ℕ) → Knows self.old list c x → Contains (found_in (row (store_of self.new) list)) x }
         ensures capacity { vec_capacity out.old ≤ vec_capacity out.new }
         ensures known { Keeps (Knows self.old) (Knows self.new) }
+        ensures kept { KeepsSlots (Shown self.old) (Shown self.new) }
+        ensures borne { (f : Filing) → BearsOut self.old f → BearsOut self.new f }
+        ensures stays { StayFiled self.old.lists self.new.lists }
         ensures same_filed { SameFiled self.old self.new }
         ensures all { out.new.items ≡ out.old.items ++ items_of (list_in self.old.lists list) }
     {
@@ -302,6 +324,9 @@ impl LeafLists for PlainLists {
         ensures ok { OnOk result (store_of self.new ≡ with_filer_room (store_of self.old) grants items) }
         ensures err { OnErr result (store_of self.new ≡ store_of self.old) }
         ensures known { Keeps (Knows self.old) (Knows self.new) }
+        ensures kept { KeepsSlots (Shown self.old) (Shown self.new) }
+        ensures borne { (f : Filing) → BearsOut self.old f → BearsOut self.new f }
+        ensures stays { StayFiled self.old.lists self.new.lists }
         ensures same_filed { SameFiled self.old self.new }
     {
         self.spare_grants.reserve(grants as usize)?;
@@ -315,7 +340,11 @@ impl LeafLists for PlainLists {
         requires { MayAdmit (store_of self.old) grants.now }
         ensures store { store_of self.new ≡ admitted (store_of self.old) grants.now }
         ensures filer { result ≡ record { name = (store_of self.old).name; birth = birth_now (store_of self.old); left = grants.now; answers = [] } }
+        ensures vouched { BearsOut self.new result }
         ensures known { Keeps (Knows self.old) (Knows self.new) }
+        ensures kept { KeepsSlots (Shown self.old) (Shown self.new) }
+        ensures borne { (f : Filing) → BearsOut self.old f → BearsOut self.new f }
+        ensures stays { StayFiled self.old.lists self.new.lists }
         ensures same_filed { SameFiled self.old self.new }
     {
         let mut kept = mem::replace(&mut self.spare_grants, Vec::new(self.alloc));
@@ -351,8 +380,12 @@ impl LeafLists for PlainLists {
         requires borne_out { BearsOut self.old filer }
         ensures store { store_of self.new ≡ one_less (store_of self.old) filer.birth }
         ensures filed { (a : Answer) (c k : ℕ) → Contains filer.answers a → a.filed ≡ At c k → IsStanding (Knows self.new a.list) (row (store_of self.old) a.list) c a.item }
+        ensures slots { (a : Answer) (c k : ℕ) → Contains filer.answers a → a.filed ≡ At c k → IsFiledAt (Shown self.new a.list) (claims_in self.new a.list) (row (store_of self.old) a.list) c k a.item }
         ensures late { (a : Answer) (s : Seen) → Contains filer.answers a → a.filed ≡ Late s → IsShut (store_of self.old) a.list }
         ensures known { Keeps (Knows self.old) (Knows self.new) }
+        ensures kept { KeepsSlots (Shown self.old) (Shown self.new) }
+        ensures borne { (f : Filing) → 0 < slice_index (store_of self.new).out f.birth → BearsOut self.old f → BearsOut self.new f }
+        ensures stays { StayFiled self.old.lists self.new.lists }
         ensures same_filed { SameFiled self.old self.new }
     {
         if count_off(&mut self.out, filer.birth()) {
@@ -366,6 +399,9 @@ impl LeafLists for PlainLists {
         ensures reader { seat_of result ≡ record { name = (store_of self.old).name; birth = birth_now (store_of self.old) } }
         ensures sees { (l c x : ℕ) → IsOpen (store_of self.old) l → Knows self.old l c x → Contains (chunks_of (row (store_of self.old) l)) c × Saw result c x }
         ensures known { Keeps (Knows self.old) (Knows self.new) }
+        ensures kept { KeepsSlots (Shown self.old) (Shown self.new) }
+        ensures borne { (f : Filing) → BearsOut self.old f → BearsOut self.new f }
+        ensures stays { StayFiled self.old.lists self.new.lists }
         ensures same_filed { SameFiled self.old self.new }
     {
         let now = self.order.len();
@@ -380,6 +416,8 @@ impl LeafLists for PlainLists {
     fn reclaim(&mut self)
         ensures store { IsReclaimed (store_of self.old) (store_of self.new) }
         ensures known { (l c x : ℕ) → (IsCleared (store_of self.new) l → ⊥) → Knows self.old l c x → Knows self.new l c x }
+        ensures kept { (l c k : ℕ) (y : Option ℕ) → (IsCleared (store_of self.new) l → ⊥) → Shown self.old l c k y → Shown self.new l c k y }
+        ensures borne { (f : Filing) → ((a : Answer) (c k : ℕ) → Contains f.answers a → a.filed ≡ At c k → IsCleared (store_of self.new) a.list → ⊥) → BearsOut self.old f → BearsOut self.new f }
         ensures stays { (l : ℕ) → (IsCleared (store_of self.new) l → ⊥) → list_in self.new.lists l ≡ list_in self.old.lists l }
     {
         while self.may_clear() {
@@ -395,6 +433,9 @@ impl LeafLists for PlainLists {
         requires { (seat_of reader).name ≡ (store_of self.old).name }
         ensures store { store_of self.new ≡ one_less (store_of self.old) (seat_of reader).birth }
         ensures known { Keeps (Knows self.old) (Knows self.new) }
+        ensures kept { KeepsSlots (Shown self.old) (Shown self.new) }
+        ensures borne { (f : Filing) → 0 < slice_index (store_of self.new).out f.birth → BearsOut self.old f → BearsOut self.new f }
+        ensures stays { StayFiled self.old.lists self.new.lists }
         ensures same_filed { SameFiled self.old self.new }
     {
         if count_off(&mut self.out, reader.birth) {
@@ -404,6 +445,10 @@ impl LeafLists for PlainLists {
 
     fn seats_out(&self) -> u64 {
         self.seats
+    }
+
+    fn slots_agree(&self) {
+        let _ = &self.seats;
     }
 }
 

@@ -5,7 +5,7 @@ use Rattle.std.proofs.lemmas.List.Elements.{filter_map-append}
 use Rattle.std.proofs.lemmas.List.Sums.{sum_by-cons}
 use Rattle.std.specs.List.{flat_map}
 use Rattle.cube_math.specs.Points.{PointValue}
-use Rattle.record_model.specs.Records.{Record, Entry, entry_of, flat, journal, published}
+use Rattle.record_model.specs.Records.{Record, JournalEntry, entry_of, flat, journal, published}
 use Rattle.record_model.specs.Admissions.{AdmissionValue, admissions, admissions_from, admitted, admitted_points}
 use Rattle.record_model.specs.declared.event.Event.TheVariants.{Admission, Look, Publication}
 
@@ -22,7 +22,7 @@ pub length-journal : (events more : Record) → length (journal (events ++ more)
 length-journal events more = ap length (journal-append events more) ∙ length-append (journal events) (journal more)
 
 pub published-append : (events more : Record) → published (events ++ more) ≡ published events ++ published more
-published-append events more = ap flat (journal-append events more) ∙ flat_map-append (λ (e : Entry). e.points) (journal events) (journal more)
+published-append events more = ap flat (journal-append events more) ∙ flat_map-append (λ (e : JournalEntry). e.points) (journal events) (journal more)
 
 -- a publication adds its points to those that are published
 pub published-publication : (events : Record) (input loader : ℕ) (points : List PointValue) → published (events ++ (Publication input points, loader) ∷ []) ≡ published events ++ points

@@ -13,24 +13,24 @@ abbrev pub Record : Type 0
 Record = List (Event × ℕ)
 
 -- what a journal has of a published batch: the number of its input, the pass that published it, and its points
-pub record Entry : Type 0 where
+pub record JournalEntry : Type 0 where
   pub input : ℕ
   pub loader : ℕ
   pub points : List PointValue
 
 -- the entry of a publication
-abbrev pub entry_of : Event × ℕ → Option Entry
+abbrev pub entry_of : Event × ℕ → Option JournalEntry
 entry_of (Admission input points, loader) = None
 entry_of (Publication input points, loader) = Some record { input = input; loader = loader; points = points }
 entry_of (Look, loader) = None
 
 -- the entries of the publications, in order
-abbrev pub journal : Record → List Entry
+abbrev pub journal : Record → List JournalEntry
 journal events = filter_map entry_of events
 
 -- the points of entries, one entry after the other
-abbrev pub flat : List Entry → List PointValue
-flat entries = flat_map (λ (e : Entry). e.points) entries
+abbrev pub flat : List JournalEntry → List PointValue
+flat entries = flat_map (λ (e : JournalEntry). e.points) entries
 
 -- the published points, in the order of the publications
 abbrev pub published : Record → List PointValue

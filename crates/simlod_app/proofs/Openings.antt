@@ -1,5 +1,5 @@
 -- The files that a run has opened, and what is known of all files by them.
-use Rattle.std.proofs.Common.{◌≡◌, ◌⊎◌, inl, inr, ℕ, ◌+◌, ◌-◌, List, [], ◌∷◌, ◌++◌, map, length, length-append, take, drop, Some, None, Option, Ok, ap, ◌∙◌, sym, refl, subst, arith, append_assoc}
+use Rattle.std.proofs.Common.{◌≡◌, ◌⊎◌, inl, inr, ℕ, ◌-◌, List, [], ◌∷◌, ◌++◌, map, length, length-append, take, drop, Some, None, Option, Ok, ap, ◌∙◌, sym, refl, subst, arith, append_assoc}
 use Rattle.std.specs.Prelude.{All, IfSome, IsSomeAnd, IsTrue, option_map}
 use Rattle.std.proofs.lemmas.List.{append-nil, length-map, map-append}
 use Rattle.std.proofs.lemmas.List.Elements.{All-nil, All-append, All-cons, All-head, All-tail, All-take}

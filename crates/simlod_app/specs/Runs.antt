@@ -1,5 +1,5 @@
 -- What a run is to answer, of its words and of what its files have: its whole output, or its first refusal.
-use Rattle.std.specs.Prelude.{ℕ, ◌-◌, List, [], map, Bool, true, false, ◌&&◌, ◌||◌, not, nat_lt, Option, Some, None, Result, Ok, Err, if◌then◌else◌, length, drop, find, option_map, unwrap_or, codes}
+use Rattle.std.specs.Prelude.{ℕ, ◌-◌, List, [], ◌∷◌, map, Bool, true, false, ◌&&◌, ◌||◌, not, nat_lt, Option, Some, None, Result, Ok, Err, if◌then◌else◌, length, drop, find, option_map, unwrap_or, codes}
 use Rattle.std.specs.Option.{option_map_or}
 use Rattle.std.specs.Str.{bytes_eq, str_eq_ignore_ascii_case}
 use Rattle.batch_bounds.specs.Batches.{batches}
@@ -21,6 +21,7 @@ use Rattle.camera_cut.specs.declared.numbers.CameraNumbers.{CameraNumbers}
 use Rattle.octree_plain.specs.Bounds.{bounds_text}
 use Rattle.octree_plain.specs.Fitting.{fitted_cube}
 use Rattle.octree_plain.specs.Listing.{nodes_text}
+use Rattle.octree_plain.specs.Summary.{demo_text}
 use Rattle.octree_plain.specs.declared.fitting.Span.{Span}
 use Rattle.run_report.specs.declared.fault.Fault.{Fault}
 use Rattle.run_report.specs.declared.fault.Fault.TheVariants.{Command, NoFile, TooLong, Frames, Batch}
@@ -30,6 +31,7 @@ use Rattle.run_words.specs.Values.{JobValue}
 use Rattle.run_words.specs.declared.command.CommandName.{CommandName}
 use Rattle.run_words.specs.declared.command.CommandName.TheVariants.{Nodes, Bounds, Image, Replay, Demo, Live}
 use Rattle.run_words.specs.declared.words.WordsFault.{WordsFault}
+use Rattle.synthetic_cloud.specs.Generated.{generated}
 use Rattle.xyz_points.specs.Reading.{xyz, all_or_first_error}
 use Rattle.xyz_points.specs.declared.reader.XyzFault.{XyzFault}
 use Rattle.simlod_app.specs.declared.reading.Reading.{Reading}
@@ -54,8 +56,8 @@ abbrev pub is_run : CommandName → Bool
 is_run Nodes = true
 is_run Image = true
 is_run Bounds = true
+is_run Demo = true
 is_run Replay = false
-is_run Demo = false
 is_run Live = false
 
 -- a refusal of the words is one of the run
@@ -169,11 +171,13 @@ camera_numbers j = record {
   dot = j.dot;
 }
 
--- what a job shows of the octree of points in a cube: the picture that its camera takes of it, or the list of its nodes
-abbrev pub tree_output : JobValue → CubeValue → List PointValue → List ℕ
-tree_output j cube points =
-    if is_same j.command Image then picture j.leaf cube points (camera_of (camera_numbers j))
-    else nodes_text j.voxels (octree j.leaf cube points) cube
+-- what a job shows of the octree of clouds in a cube: the picture that its camera takes of it, or how much it has and how many batches
+-- the clouds made, or the list of its nodes
+abbrev pub tree_output : JobValue → CubeValue → List (List PointValue) → List ℕ
+tree_output j cube clouds =
+    if is_same j.command Image then picture j.leaf cube (joined clouds) (camera_of (camera_numbers j))
+    else if is_same j.command Demo then demo_text (length (batches j.batch clouds)) (octree j.leaf cube (joined clouds)) cube
+    else nodes_text j.voxels (octree j.leaf cube (joined clouds)) cube
 
 -- the limits on a job's octree
 abbrev pub limits_of : JobValue → Limits
@@ -183,9 +187,9 @@ limits_of j = record { leaf = j.leaf; nodes = j.nodes; points = j.points }
 unfoldable pub octree_output_in : JobValue → List (List PointValue) → CubeValue → Result (List ℕ) Fault
 octree_output_in j clouds cube =
     option_map_or (λ row. Err (Batch row)) (first_refusal cube (limits_of j) (batches j.batch clouds))
-    (Ok (tree_output j cube (joined clouds)))
+    (Ok (tree_output j cube clouds))
 
--- the output of `nodes` and of `image` with these clouds: what is shown of their octree in the root cube, if there is one
+-- the output of `nodes`, `image` and `demo` with these clouds: what is shown of their octree in the root cube, if there is one
 abbrev pub octree_output : JobValue → List (List PointValue) → Result (List ℕ) Fault
 octree_output j clouds = cube_of j.cube (joined clouds) >>= octree_output_in j clouds
 
@@ -193,9 +197,16 @@ octree_output j clouds = cube_of j.cube (joined clouds) >>= octree_output_in j c
 abbrev pub bounds_output : List PointValue → Result CubeValue Fault → Result (List ℕ) Fault
 bounds_output points cube = cube >>= λ c. Ok (bounds_text points c)
 
--- the output of a job with these clouds
+-- the output of `demo`, which has no files: of the one cloud that its seed makes
+abbrev pub demo_output : JobValue → Result (List ℕ) Fault
+demo_output j = octree_output j (generated j.seed j.count ∷ [])
+
+-- the output of a job with these clouds of its files
 abbrev pub clouds_output : JobValue → List (List PointValue) → Result (List ℕ) Fault
-clouds_output j clouds = if is_same j.command Bounds then bounds_output (joined clouds) (cube_of None (joined clouds)) else octree_output j clouds
+clouds_output j clouds =
+    if is_same j.command Bounds then bounds_output (joined clouds) (cube_of None (joined clouds))
+    else if is_same j.command Demo then demo_output j
+    else octree_output j clouds
 
 -- how a job reads its files
 abbrev pub reading_of : JobValue → Reading

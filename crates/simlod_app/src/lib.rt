@@ -3,6 +3,7 @@
 
 mod bounds;
 mod clouds;
+mod demo;
 mod faults;
 mod octree;
 mod output;

@@ -16,13 +16,13 @@ use crate::faults;
 use batch_bounds::{Limits, batch_ends, build_within};
 use camera_cut::{Camera, CameraNumbers};
 use cube_math::{Cube, Point};
-use octree_plain::{Tree, nodes_text};
+use octree_plain::{Tree, demo_text, nodes_text};
 use run_report::Fault;
 use run_words::{CommandName, Job};
 use splat_ppm::picture_of;
 use std::alloc::{AllocError, Global};
 
-/// The output of `nodes` and of `image`: what the job shows of the octree of all points of the clouds.
+/// The output of `nodes`, `image` and `demo`: what the job shows of the octree of all points of the clouds.
 pub fn octree_output(alloc: Global, clouds: Vec<Vec<Point>>, job: &Job) -> Result<Vec<u8>, Fault>
     requires { HasRanges job.now }
     ensures axis { IfErr result HasAxis }
@@ -63,8 +63,7 @@ fn root_cube(points: &[Point], given: Option<Cube>) -> Result<Cube, Fault>
     }
 }
 
-/// The output of `nodes` and of `image` for points that are cut into batches, in their root cube, if no bound
-/// refuses a batch.
+/// The same for points that are cut into batches, in their root cube, if no bound refuses a batch.
 fn octree_output_in(
     alloc: Global,
     points: &[Point],
@@ -81,7 +80,7 @@ fn octree_output_in(
         → Gives vec_items result (octree_output_in job.now clouds cube.now) }
 {
     match build_within(alloc, points, ends, cube, &limits_of(job)) {
-        Ok(tree) => match tree_output(alloc, &tree, cube, job) {
+        Ok(tree) => match tree_output(alloc, &tree, cube, ends.len(), job) {
             Ok(output) => Ok(output),
             Err(_) => Err(Fault::Memory),
         },
@@ -89,14 +88,23 @@ fn octree_output_in(
     }
 }
 
-/// What a job shows of an octree: a picture, or the list of its nodes.
-fn tree_output(alloc: Global, tree: &Tree, cube: &Cube, job: &Job) -> Result<Vec<u8>, AllocError>
+/// What a job shows of an octree whose points came in so many batches: a picture, how much it has, or the
+/// list of its nodes.
+fn tree_output(
+    alloc: Global,
+    tree: &Tree,
+    cube: &Cube,
+    batch_count: usize,
+    job: &Job,
+) -> Result<Vec<u8>, AllocError>
     requires octree { IsOctreeIn cube.now tree.now }
     requires ranges { HasRanges job.now }
-    ensures { (points : List PointValue) → tree.now ≡ octree job.now.leaf cube.now points → IfOk result (λ output. output.items ≡ tree_output job.now cube.now points) }
+    ensures { (clouds : List (List PointValue)) → tree.now ≡ octree job.now.leaf cube.now (joined clouds) → batch_count ≡ length (batches job.now.batch clouds)
+        → IfOk result (λ output. output.items ≡ tree_output job.now cube.now clouds) }
 {
     match job.command {
         CommandName::Image => picture_of(alloc, tree, cube, &camera_of(job)),
+        CommandName::Demo => demo_text(alloc, tree, cube, batch_count),
         _ => nodes_text(alloc, tree, cube, job.voxels),
     }
 }

@@ -9,6 +9,7 @@ ghost use Rattle.simlod_app.specs.Reads.{AreOpened, AreReadFor, OfFiles};
 ghost use Rattle.simlod_app.specs.Runs.{job_output, clouds_output, reading_of};
 
 use crate::bounds::bounds_output;
+use crate::demo::demo_output;
 use crate::octree::octree_output;
 use crate::reading::{read_clouds, reading_of};
 use cloud_io::Inputs;
@@ -33,7 +34,7 @@ pub fn job_output<I: Inputs>(alloc: Global, inputs: &mut I, job: &Job) -> Result
     clouds_output(alloc, clouds, job)
 }
 
-/// The output of a job with these clouds.
+/// The output of a job with these clouds of its files.
 fn clouds_output(alloc: Global, clouds: Vec<Vec<Point>>, job: &Job) -> Result<Vec<u8>, Fault>
     requires { HasRanges job.now }
     ensures axis { IfErr result HasAxis }
@@ -41,6 +42,7 @@ fn clouds_output(alloc: Global, clouds: Vec<Vec<Point>>, job: &Job) -> Result<Ve
 {
     match job.command {
         CommandName::Bounds => bounds_output(alloc, clouds),
+        CommandName::Demo => demo_output(alloc, job),
         _ => octree_output(alloc, clouds, job),
     }
 }

@@ -9,7 +9,8 @@ use run_report::Fault;
 use run_words::{CommandName, Job, read_words};
 use std::alloc::Global;
 
-/// The job of the words, if it is one that is run here: a listing, a picture or bounds.
+/// The job of the words, if it is one that is run here: a listing, a picture, bounds or a
+/// demonstration.
 pub fn read_job(alloc: Global, words: &[String]) -> Result<Job, Fault>
     ensures gives { Gives (λ j. j) result (job_here (map string_bytes words.now)) }
     ensures ranges { IfOk result (λ j. HasRanges j) }
@@ -39,7 +40,7 @@ fn is_run(command: CommandName) -> bool
     ensures { result ≡ is_run command }
 {
     match command {
-        CommandName::Nodes | CommandName::Bounds | CommandName::Image => true,
-        CommandName::Replay | CommandName::Demo | CommandName::Live => false,
+        CommandName::Nodes | CommandName::Bounds | CommandName::Image | CommandName::Demo => true,
+        CommandName::Replay | CommandName::Live => false,
     }
 }

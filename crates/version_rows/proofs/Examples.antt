@@ -5,7 +5,7 @@ use Rattle.std.proofs.lemmas.List.Kept.{AllPairs-cons}
 use Rattle.cube_math.specs.Points.{PointValue}
 use Rattle.record_model.specs.Records.{Record}
 use Rattle.record_model.specs.declared.event.Event.TheVariants.{Admission, Publication, Look}
-use Rattle.version_rows.specs.Journals.{AreApart, AreBatchesOf, up_to_publication}
+use Rattle.version_rows.specs.Journals.{AreApart, AreBatchesOf, HasAdmission, up_to_publication}
 use Rattle.version_rows.specs.Versions.{BatchRowValue}
 
 abbrev white : ℕ → PointValue
@@ -42,12 +42,36 @@ no_pairs i j d low high = absurd (below_nothing j high)
     below_nothing : (k : ℕ) → k < 0 → ⊥
     below_nothing k low = omega arith
 
+-- each with its admission
+first_admission : HasAdmission story first_row
+first_admission = record {
+  before = (Admission 0 (white 1 ∷ white 2 ∷ []), 0) ∷ [];
+  points = white 3 ∷ [];
+  behind = (Publication 1 (white 3 ∷ []), 1) ∷ (Publication 0 (white 1 ∷ white 2 ∷ []), 0) ∷ (Admission 2 (white 4 ∷ []), 0) ∷ (Look, 2) ∷ [];
+  is = refl;
+  first = refl;
+  len = refl;
+}
+
+second_admission : HasAdmission story second_row
+second_admission = record {
+  before = [];
+  points = white 1 ∷ white 2 ∷ [];
+  behind = (Admission 1 (white 3 ∷ []), 1) ∷ (Publication 1 (white 3 ∷ []), 1)
+      ∷ (Publication 0 (white 1 ∷ white 2 ∷ []), 0) ∷ (Admission 2 (white 4 ∷ []), 0) ∷ (Look, 2) ∷ [];
+  is = refl;
+  first = refl;
+  len = refl;
+}
+
 -- they stand for the journal
 rows_are_the_journal : AreBatchesOf story rows
 rows_are_the_journal = record {
   entries = refl;
   numbers = refl;
   within = All-cons InAll first_row (second_row ∷ []) (omega arith) (All-cons InAll second_row [] (omega arith) (none_of InAll));
+  admitted = All-cons (HasAdmission story) first_row (second_row ∷ []) first_admission
+      (All-cons (HasAdmission story) second_row [] second_admission (none_of (HasAdmission story)));
   apart = AllPairs-cons AreApart first_row (second_row ∷ []) (All-cons (AreApart first_row) second_row [] (inr (omega arith)) (none_of (AreApart first_row)))
       (AllPairs-cons AreApart second_row [] (none_of (AreApart second_row)) no_pairs);
 }

@@ -1,2 +1,3 @@
 mod Examples
+pub mod StayLaws
 pub mod VersionLaws

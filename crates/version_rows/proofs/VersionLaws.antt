@@ -30,7 +30,13 @@ pub opening : (config : Config) (chains : ChainsValue)
 opening config chains = record {
   cube = refl;
   nodes = sym (ap (map (facts_of_node [])) (outline_of_none config));
-  batches = record { entries = refl; numbers = refl; within = λ k d low. absurd (omega arith); apart = λ i j d low high. absurd (omega arith) };
+  batches = record {
+    entries = refl;
+    numbers = refl;
+    within = λ k d low. absurd (omega arith);
+    admitted = λ k d low. absurd (omega arith);
+    apart = λ i j d low high. absurd (omega arith);
+  };
 }
 
 -- whether something is published in a record that goes on

@@ -1,7 +1,10 @@
 //! The rows of a version: the nodes of the octree of a journal with the chains of its leaves, and the journal's batches. The
-//! definitions (in `specs/`) are those that both a store and a simulated one cite, and a law says what no events leave.
+//! definitions (in `specs/`) are those that both a store and a simulated one cite, and laws say which events change a version.
 #![tactic(auto)]
 
 mod laws;
 
-pub use laws::{opening_version_is_of_no_events, publications_fix_what_was_admitted};
+pub use laws::{
+    opening_version_is_of_no_events, publications_fix_what_was_admitted,
+    versions_last_until_a_publication,
+};

@@ -5,6 +5,8 @@
 #[cfg(test)]
 mod bounds;
 #[cfg(test)]
+mod demos;
+#[cfg(test)]
 mod limits;
 #[cfg(test)]
 mod listings;

@@ -11,6 +11,11 @@ fn words_that_are_no_job_are_refused_in_order(rt: HostRuntime) -> Result<(), Fai
         ("nodes --leaf 5 p.xyz", "simlod: usage: word 2\n"),
         ("nodes --leaf=0 p.xyz", "simlod: usage: value of --leaf\n"),
         ("nodes --focal=1 p.xyz", "simlod: usage: options\n"),
+        ("demo p.xyz", "simlod: usage: options\n"),
+        (
+            "demo --seed=18446744073709551616",
+            "simlod: usage: value of --seed\n",
+        ),
         (
             "nodes --cube=0,0,0,32 p.xyz",
             "simlod: usage: value of --cube\n",
@@ -31,7 +36,6 @@ fn jobs_that_are_not_run_here_are_refused(rt: HostRuntime) -> Result<(), Fail> {
     let rows = [
         ("live p.xyz", "simlod: usage: command\n"),
         ("replay --schedule=s p.xyz", "simlod: usage: command\n"),
-        ("demo", "simlod: usage: command\n"),
     ];
     for (line, said) in rows {
         run(rt.alloc(), line, &[("p.xyz", "0 0 0\n")])?.expect_refusal(&rt, Status::Usage, said);

@@ -5,4 +5,4 @@ use Rattle.camera_cut.proofs.OrderLaws.{in_order}
 use Rattle.camera_cut.proofs.laws.outline_is_in_path_order.Goals as goal
 
 pub returns : goal.returns
-returns c = in_order (outline (octree c.args.leaf c.args.cube.now c.args.points.now) c.args.cube.now) (outline_ordered c.args.leaf c.args.cube.now c.args.points.now)
+returns c = λ leaf cube points. in_order (outline (octree leaf cube points) cube) (outline_ordered leaf cube points)

@@ -9,7 +9,7 @@ use Rattle.list_table.specs.OwnerMoves.{ledger_after_shut}
 use Rattle.list_table.specs.declared.views.Ledger.{Ledger}
 use Rattle.list_table.proofs.Frames.{leaf_at, notes_at, open_notes}
 use Rattle.chunk_lists.specs.Sweeps.{AreSwept, items_in}
-use Rattle.chunk_lists.proofs.Marking.{leaf_shut, leaf_now, notes_now, swept_both, all_found}
+use Rattle.chunk_lists.proofs.Marking.{leaf_shut, leaf_now, notes_now, swept_both, item_noted, noted_is_found}
 use Rattle.chunk_lists.proofs.sweeping.shut_and_mark.Goals as goal
 
 pub sweep_claimed-requires-clause-shut : goal.sweep_claimed-requires-clause-shut
@@ -59,7 +59,7 @@ returns-clause-swept c =
       c.sweep_owned.ensures.found ∙ ((λ j. a.4 j ++ (notes j).placed) ∙ append_assoc c.args.out.now.items (items_in marked) placed),
       λ d e x known.
           let was = both.known (Item l d e x) (suc known.0, known.1) in
-          all_found k l q f m n d e x last (record { placed = placed; marked = marked }) leaf (notes_now s k l q f m marked both n long c.requires.notes lt) refl (omega (arith, used)) c.notes_are_kept-2.ensures long_now lt
+          noted_is_found last (record { placed = placed; marked = marked }) d e x (item_noted k l q f m n d e x last (record { placed = placed; marked = marked }) leaf (notes_now s k l q f m marked both n long c.requires.notes lt) refl (omega (arith, used)) c.notes_are_kept-2.ensures long_now lt
           (λ o v d i y z u w. c.facts_agree.ensures.one o v d i y z u w) (λ o v d i y u w. c.facts_agree.ensures.none o v d i y u w)
-          (c.items_are_swept.ensures l d e x q f m last was (subst (λ (r : Leaf). IsAt k.owner.book.leaves l r) leaf (leaf_at k n l long_now lt)) refl) was,
+          (c.items_are_swept.ensures l d e x q f m last was (subst (λ (r : Leaf). IsAt k.owner.book.leaves l r) leaf (leaf_at k n l long_now lt)) refl) was),
     )

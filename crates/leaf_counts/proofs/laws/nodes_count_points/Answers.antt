@@ -6,7 +6,7 @@ use Rattle.leaf_counts.proofs.CountLaws.{counted_is}
 use Rattle.leaf_counts.proofs.laws.nodes_count_points.Goals as goal
 
 pub returns : goal.returns
-returns c = λ path node e.
-    let says : SaysOf c.args.leaf (cube_at c.args.cube.now path) c.args.points.now node =
-    node_says path c.args.leaf c.args.cube.now c.args.points.now node (ap (λ (t : Counts). node_at t path) (sym (counted_is c.args.leaf c.args.cube.now c.args.points.now)) ∙ e) in
+returns c = λ leaf cube points path node e.
+    let says : SaysOf leaf (cube_at cube path) points node =
+    node_says path leaf cube points node (ap (λ (t : Counts). node_at t path) (sym (counted_is leaf cube points)) ∙ e) in
     (says.count, says.inner)

@@ -36,3 +36,6 @@ shut_and_sweep-requires-clause-room g c =
     let many : length (chunks_of (row s c.args.list)) ≡ length (chunks_of old) =
     omega (arith, length-append (row s c.args.list).claimed (row s c.args.list).owned, length-append old.claimed old.owned, ap length claimed, ap length owned) in
     subst (λ (r : Row). vec_len c.args.out.now + 256 * length (chunks_of r) ≤ vec_capacity c.args.out.now) (sym here) (omega (arith, many, c.requires.space))
+
+pub take_back-requires-clause-borne_out : goal.take_back-requires-clause-borne_out
+take_back-requires-clause-borne_out g c = c.shut_and_sweep.ensures.borne _ (c.place.ensures.borne _ c.admit-filer.ensures.vouched)

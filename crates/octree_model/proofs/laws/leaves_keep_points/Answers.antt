@@ -1,6 +1,6 @@
-use Rattle.std.proofs.Common.{arith}
+use Rattle.std.proofs.Common.{◌-◌, arith}
 use Rattle.octree_model.proofs.BagLaws.{same_points}
 use Rattle.octree_model.proofs.laws.leaves_keep_points.Goals as goal
 
 pub returns : goal.returns
-returns c = λ test. same_points test c.args.leaf _ c.args.cube.now c.args.points.now (omega arith)
+returns c = λ leaf cube points test. same_points test leaf (cube.bits - 7) cube points (omega arith)

@@ -2,4 +2,4 @@ use Rattle.octree_model.proofs.LeafLaws.{cubes_are}
 use Rattle.octree_model.proofs.laws.paths_lead_to_cubes.Goals as goal
 
 pub returns : goal.returns
-returns c = cubes_are c.args.leaf c.args.cube.now c.args.points.now
+returns c = cubes_are

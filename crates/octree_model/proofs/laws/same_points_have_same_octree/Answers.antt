@@ -4,4 +4,4 @@ use Rattle.octree_model.proofs.SameBagLaws.{same_facts}
 use Rattle.octree_model.proofs.laws.same_points_have_same_octree.Goals as goal
 
 pub returns : goal.returns
-returns c = λ same. ap (λ (f : FactsAt). f []) (same_facts c.args.leaf (c.args.cube.now.bits - 7) c.args.cube.now c.args.first.now c.args.second.now same)
+returns c = λ leaf cube first second same. ap (λ (f : FactsAt). f []) (same_facts leaf (cube.bits - 7) cube first second same)

@@ -11,9 +11,10 @@ use Rattle.list_table.specs.declared.views.Ledger.{Ledger}
 use Rattle.list_table.proofs.Clears.{others_stay}
 use Rattle.chunk_lists.specs.Keepers.{IsKeeper, KnownIn, store_of}
 use Rattle.chunk_lists.specs.Wipes.{cleared_ledger}
-use Rattle.chunk_lists.proofs.Reclaims.{may_begin, next_below, store_cleared, tied_cleared}
+use Rattle.chunk_lists.proofs.Reclaims.{may_begin, next_below, slot_stays, store_cleared, tied_cleared}
 use Rattle.chunk_lists.proofs.Rows.{rows_length}
 use Rattle.chunk_lists.proofs.Ties.{row_is}
+use Rattle.chunk_lists.specs.Keepers.{ShownIn}
 use Rattle.chunk_lists.proofs.keeper.Keeper.clear.Goals as goal
 
 pub wipe-requires-clause-may : goal.wipe-requires-clause-may
@@ -78,10 +79,7 @@ returns-clause-below c =
     subst (λ k. c.args.list < length (store_of k).rows) c.self.view_is (omega (arith, low, long, rows, next))
 
 pub returns-clause-known : goal.returns-clause-known
-returns-clause-known c h d y other q =
-    let i = c.self.inside in let g = i.seat.ledger in let b = i.book in let t = c.self.invariant.tied in let n = i.lists.value.lists in let m = i.lists.value.chunks in
-    let may = subst (λ k. MayClearNext k.book) (sym c.self.view_is) c.requires.may in
-    let next = c.requires.next ∙ ap (λ k. next_in_order k.book) (sym c.self.view_is) in
-    let z = subst (λ k. KnownIn k h d y) (sym c.self.view_is) q in
-    let stay = others_stay c.args.list g.owner.facts h other (Item h d z.0 y) refl z.1 in
-    subst (λ (o : Ledger). KnownIn (record { name = i.seat.name; ledger = o; book = i.book }) h d y) (sym c.wipe.ensures.ledger) (z.0, stay)
+returns-clause-known c h d i y other q =
+    let s = c.self.inside in
+    let z = subst (λ k. ShownIn k h d i y) (sym c.self.view_is) q in
+    subst (λ (o : Ledger). ShownIn (record { name = s.seat.name; ledger = o; book = s.book }) h d i y) (sym c.wipe.ensures.ledger) (slot_stays c.args.list s.seat.ledger.owner.facts h d i y other z)

@@ -13,6 +13,7 @@ use Rattle.list_table.specs.Tables.{OwnerValue}
 use Rattle.list_book.specs.Books.{BookValue}
 use Rattle.chunk_lists.proofs.Chunks.{free_chunk, in_no_chain, leads_last, chain_is_short}
 use Rattle.chunk_lists.proofs.Ties.{phase_is, open_below, open_phase, row_is, tied_set, store_then, same_notes, linked_tied}
+use Rattle.list_table.specs.Ledgers.{Knows}
 use Rattle.chunk_lists.proofs.keeper.Keeper.extend_claimed.Goals as goal
 
 pub claimed-chain-requires : goal.claimed-chain-requires
@@ -109,6 +110,6 @@ returns-clause-store c =
     )
 
 pub returns-clause-known : goal.returns-clause-known
-returns-clause-known c h d y q =
-    let i = c.self.inside in
-    subst (λ (o : Ledger). KnownIn (record { name = i.seat.name; ledger = o; book = i.book }) h d y) (sym c.link.ensures.ledger) (let z = subst (λ k. KnownIn k h d y) (sym c.self.view_is) q in (z.0, (suc z.1.0, z.1.1)))
+returns-clause-known c f q =
+    let z = subst (λ k. Knows k.ledger.owner.facts f) (sym c.self.view_is) q in
+    subst (λ (o : Ledger). Knows o.owner.facts f) (sym c.link.ensures.ledger) (suc z.0, z.1)

@@ -11,6 +11,7 @@ use Rattle.list_table.specs.Tables.{OwnerValue}
 use Rattle.list_book.specs.Books.{BookValue}
 use Rattle.chunk_lists.proofs.Chunks.{free_chunk, in_no_chain}
 use Rattle.chunk_lists.proofs.Ties.{phase_is, open_below, open_phase, row_is, tied_set, store_then, same_notes, lengthened_tied}
+use Rattle.list_table.specs.Ledgers.{Knows}
 use Rattle.chunk_lists.proofs.keeper.Keeper.extend_owned.Goals as goal
 
 pub extend_owned-chunk-requires-clause-takes : goal.extend_owned-chunk-requires-clause-takes
@@ -69,6 +70,5 @@ returns-clause-store c =
     )
 
 pub returns-clause-known : goal.returns-clause-known
-returns-clause-known c h d y q =
-    let i = c.self.inside in
-    subst (λ (o : Ledger). KnownIn (record { name = i.seat.name; ledger = o; book = i.book }) h d y) (sym c.adopt.ensures.ledger) (subst (λ k. KnownIn k h d y) (sym c.self.view_is) q)
+returns-clause-known c f q =
+    subst (λ (o : Ledger). Knows o.owner.facts f) (sym c.adopt.ensures.ledger) (subst (λ k. Knows k.ledger.owner.facts f) (sym c.self.view_is) q)

@@ -12,6 +12,8 @@ use Rattle.chunk_lists.specs.Keepers.{IsKeeper, KnownIn, store_of}
 use Rattle.list_table.specs.Tables.{OwnerValue}
 use Rattle.list_book.specs.Books.{BookValue}
 use Rattle.chunk_lists.proofs.Ties.{phase_is, open_below, open_phase, row_is, tied_set, store_then, used_tied, place_changes, placed_count}
+use Rattle.list_table.specs.Ledgers.{Knows}
+use Rattle.list_machine.specs.declared.views.Fact.TheVariants.{Item}
 use Rattle.chunk_lists.proofs.keeper.Keeper.place.Goals as goal
 
 pub use_slot-chunk-requires-clause-takes : goal.use_slot-chunk-requires-clause-takes
@@ -92,10 +94,10 @@ returns-clause-slot c =
 
 pub returns-clause-placed : goal.returns-clause-placed
 returns-clause-placed c =
-    let i = c.self.inside in let q = c.use_slot-chunk.result in
-    subst (λ (o : Ledger). KnownIn (record { name = i.seat.name; ledger = o; book = i.book }) c.args.list q.0 c.args.item) (sym c.place.ensures.ledger) (q.1, (zero, refl))
+    let q = c.use_slot-chunk.result in
+    subst (λ (o : Ledger). Knows o.owner.facts (Item c.args.list q.0 q.1 c.args.item)) (sym c.place.ensures.ledger) (zero, refl)
 
 pub returns-clause-known : goal.returns-clause-known
-returns-clause-known c h d y q =
-    let i = c.self.inside in
-    subst (λ (o : Ledger). KnownIn (record { name = i.seat.name; ledger = o; book = i.book }) h d y) (sym c.place.ensures.ledger) (let z = subst (λ k. KnownIn k h d y) (sym c.self.view_is) q in (z.0, (suc z.1.0, z.1.1)))
+returns-clause-known c f q =
+    let z = subst (λ k. Knows k.ledger.owner.facts f) (sym c.self.view_is) q in
+    subst (λ (o : Ledger). Knows o.owner.facts f) (sym c.place.ensures.ledger) (suc z.0, z.1)

@@ -12,6 +12,7 @@ use Rattle.list_table.specs.Ledgers.{Knows, leaf_of, notes_of, shown}
 use Rattle.chunk_lists.specs.Keepers.{IsKeeper, KnownIn, claims_at, rows_of, store_of}
 use Rattle.chunk_lists.proofs.Closings.{tied_then, found_then, marks_then, store_shut, one_given}
 use Rattle.chunk_lists.proofs.Ties.{phase_is, open_below, open_phase, row_is}
+use Rattle.list_table.specs.Ledgers.{Knows}
 use Rattle.chunk_lists.proofs.keeper.Keeper.shut_and_sweep.Goals as goal
 
 pub shut-requires : goal.shut-requires
@@ -182,7 +183,7 @@ returns-clause-swept c d y q =
     ∙ (λ j. found_in (row_in (rows_of (sym c.shut.ensures j).rows c.shut_and_mark.new.seat.ledger.notes) l))) (x.7 d z.0 y z.1)
 
 pub returns-clause-known : goal.returns-clause-known
-returns-clause-known c h d y q =
+returns-clause-known c f q =
     let x = c.shut_and_mark.ensures.swept in
-    let z = subst (λ k. KnownIn k h d y) (sym c.self.view_is) q in
-    (z.0, x.3.known (Item h d z.0 y) (suc z.1.0, z.1.1))
+    let z = subst (λ k. Knows k.ledger.owner.facts f) (sym c.self.view_is) q in
+    x.3.known f (suc z.0, z.1)

@@ -2,6 +2,9 @@ use Rattle.std.proofs.Common.{◌≡◌, ℕ, ◌<◌, sym, ap, subst}
 use Rattle.list_words.specs.Store.{Store, row, with_chunk, lengthened, IsInNoChain}
 use Rattle.chunk_lists.specs.Keepers.{KnownIn}
 use Rattle.chunk_lists.specs.Knives.{with_room, lists_of}
+use Rattle.list_machine.specs.declared.views.Fact.TheVariants.{Item}
+use Rattle.list_table.specs.Ledgers.{shown}
+use Rattle.chunk_lists.specs.Keepers.{ShownIn}
 use Rattle.chunk_lists.proofs.knife.KnifeLeafLists.extend_owned.Goals as goal
 
 pub returns-clause-store : goal.returns-clause-store
@@ -12,4 +15,8 @@ returns-clause-store c =
     (e.0, e.1, e.2, ap (λ (s : Store). with_room s r.grants r.items) e.3)
 
 pub returns-clause-known : goal.returns-clause-known
-returns-clause-known c h d x q = c.extend_owned.ensures.known h d x (subst (λ k. KnownIn k.keeper h d x) (sym c.self.view_is) q)
+returns-clause-known c h d x q =
+    let z = subst (λ k. KnownIn k.keeper h d x) (sym c.self.view_is) q in (z.0, c.extend_owned.ensures.known (Item h d z.0 x) z.1)
+
+pub returns-clause-kept : goal.returns-clause-kept
+returns-clause-kept c h d i y q = c.extend_owned.ensures.known (shown h d i y) (subst (λ k. ShownIn k.keeper h d i y) (sym c.self.view_is) q)

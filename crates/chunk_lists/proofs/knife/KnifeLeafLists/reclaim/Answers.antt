@@ -2,6 +2,8 @@ use Rattle.std.proofs.Common.{sym, ap, subst}
 use Rattle.list_words.specs.Store.{Store, IsReclaimed}
 use Rattle.chunk_lists.specs.Keepers.{KnownIn}
 use Rattle.chunk_lists.specs.Knives.{with_room, lists_of}
+use Rattle.std.specs.Prelude.{Some}
+use Rattle.chunk_lists.specs.Keepers.{ShownIn}
 use Rattle.chunk_lists.proofs.knife.KnifeLeafLists.reclaim.Goals as goal
 
 pub returns-clause-store : goal.returns-clause-store
@@ -15,4 +17,8 @@ returns-clause-store c =
     })
 
 pub returns-clause-known : goal.returns-clause-known
-returns-clause-known c h d x uncleared q = c.reclaim.ensures.known h d x uncleared (subst (λ k. KnownIn k.keeper h d x) (sym c.self.view_is) q)
+returns-clause-known c h d x uncleared q =
+    let z = subst (λ k. KnownIn k.keeper h d x) (sym c.self.view_is) q in (z.0, c.reclaim.ensures.known h d z.0 (Some x) uncleared z.1)
+
+pub returns-clause-kept : goal.returns-clause-kept
+returns-clause-kept c h d i y uncleared q = c.reclaim.ensures.known h d i y uncleared (subst (λ k. ShownIn k.keeper h d i y) (sym c.self.view_is) q)

@@ -10,6 +10,8 @@ use Rattle.list_words.proofs.SeatLaws.{counted_here, counted_is}
 use Rattle.list_words.proofs.StoreLaws.{homed-grants, known-grants, may_grant, ordered-grants, rows-grants, shut-le, summed-grants}
 use Rattle.list_words.specs.Plain.{list_in}
 use Rattle.list_words.proofs.StoreLaws.{filed-grants}
+use Rattle.list_words.proofs.SlotLaws.{borne_stays, slots_stay, stay_granted, still_out_counted}
+use Rattle.list_words.specs.Plain.{StayFiled}
 use Rattle.list_words.proofs.plain_lists.PlainListsLeafLists.admit.Goals as goal
 
 pub grant_all-requires-clause-takes : goal.grant_all-requires-clause-takes
@@ -64,3 +66,13 @@ returns-clause-known c = known-grants c.args.grants.now c.args.self.now (record 
 pub returns-clause-same_filed : goal.returns-clause-same_filed
 returns-clause-same_filed c = λ l.
     ap (λ (ls : List PlainList). (list_in ls l).filed) c.grant_all.ensures.rows ∙ filed-grants c.args.grants.now c.self.inside.rows.items l ∙ ap (λ (p : Plain). (list_in p.lists l).filed) c.self.view_is
+
+pub returns-clause-stays : goal.returns-clause-stays
+returns-clause-stays c = subst (λ (p : Plain). StayFiled p.lists c.grant_all.new.rows.items) c.self.view_is
+    (subst (StayFiled c.self.inside.rows.items) (sym c.grant_all.ensures.rows) (stay_granted c.args.grants.now c.self.inside.rows.items))
+
+pub returns-clause-kept : goal.returns-clause-kept
+returns-clause-kept c = slots_stay _ _ (returns-clause-stays c)
+
+pub returns-clause-borne : goal.returns-clause-borne
+returns-clause-borne c = λ f borne. borne_stays _ _ (returns-clause-stays c) f (λ some. still_out_counted c.self.inside.out.items c.len-birth.result c.index_mut.result.now f.birth (subst (λ (p : Plain). 0 < get_or p.out f.birth 0) (sym c.self.view_is) some)) borne

@@ -12,6 +12,9 @@ use Rattle.list_words.proofs.PlainLaws.{ordered-set}
 use Rattle.list_words.proofs.StoreLaws.{known_changed, list_is, nowhere, open_low, open_phase, store_chunk, stands_linked}
 use Rattle.list_words.specs.Plain.{SameFiled}
 use Rattle.list_words.proofs.StoreLaws.{filed_changed}
+use Rattle.list_words.proofs.SlotLaws.{borne_same, slots_stay, stay_changed}
+use Rattle.list_words.specs.Plain.{Plain, StayFiled}
+use Rattle.std.proofs.Common.{set}
 use Rattle.list_words.proofs.plain_lists.PlainListsLeafLists.extend_claimed.Goals as goal
 
 pub invariant_of-self : goal.invariant_of-self
@@ -72,3 +75,18 @@ returns-clause-same_filed c =
     let is : c.index_mut-row.result.now ≡ list_in c.self.inside.rows.items c.args.list = list_is c.self.inside.rows.items c.args.list c.index_mut-row.result.now low c.index_mut-row.ensures.value in
     subst (λ p. SameFiled p (with_list (plain_of c.self.inside) c.args.list c.link.new.self)) c.self.view_is
     (filed_changed (plain_of c.self.inside) c.args.list c.index_mut-row.result.now c.link.new.self low is (ap (λ (q : PlainList). q.filed) c.link.ensures))
+
+pub returns-clause-stays : goal.returns-clause-stays
+returns-clause-stays c =
+    let low : c.args.list < length c.self.inside.rows.items = open_low (plain_of c.self.inside) c.args.self.now c.args.list c.self.view_is c.requires.takes in
+    let is : c.index_mut-row.result.now ≡ list_in c.self.inside.rows.items c.args.list = list_is c.self.inside.rows.items c.args.list c.index_mut-row.result.now low c.index_mut-row.ensures.value in
+    subst (λ (p : Plain). StayFiled p.lists (set c.self.inside.rows.items c.args.list c.link.new.self)) c.self.view_is
+    (stay_changed c.self.inside.rows.items c.args.list c.index_mut-row.result.now c.link.new.self low is
+    (λ owned x d i at. subst (λ (q : PlainList). StandsAt owned q x d i) (sym c.link.ensures) (stands_linked owned c.index_mut-row.result.now c.in-Some.chunk x d i at))
+    (λ e. ap (λ (q : PlainList). q.phase) c.link.ensures ∙ e))
+
+pub returns-clause-kept : goal.returns-clause-kept
+returns-clause-kept c = slots_stay _ _ (returns-clause-stays c)
+
+pub returns-clause-borne : goal.returns-clause-borne
+returns-clause-borne c = λ f borne. borne_same _ _ (returns-clause-stays c) (ap (λ (p : Plain). p.out) c.self.view_is) f borne

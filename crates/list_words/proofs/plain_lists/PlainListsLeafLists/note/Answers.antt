@@ -6,6 +6,10 @@ use Rattle.list_words.specs.PlainKept.{plain_of}
 use Rattle.list_words.specs.declared.leaf_lists.Phase.TheVariants.{Open}
 use Rattle.list_words.proofs.SeatLaws.{counted_here}
 use Rattle.list_words.proofs.StoreLaws.{open_phase, shut-le, stands_chunk}
+use Rattle.list_words.specs.Plain.{Plain, StayFiled}
+use Rattle.std.proofs.Common.{ap, subst}
+use Rattle.list_words.proofs.SlotLaws.{borne_stays, slots_stay, stay_same, still_out_counted}
+use Rattle.std.proofs.Common.{get_or}
 use Rattle.list_words.proofs.plain_lists.PlainListsLeafLists.note.Goals as goal
 
 pub overflow_cast-result : goal.overflow_cast-result
@@ -37,3 +41,12 @@ returns-clause-sees c = λ l k x open_now known.
     let stands : StandsIn (list_in c.self.inside.rows.items l) k x = subst (λ (p : Plain). Knows p l k x) (sym c.self.view_is) known in
     let rows_are : c.of.result.value.items ≡ c.self.inside.rows.items = ap (λ v. v.items) c.of.ensures in
     (stands_chunk c.args.self.now l k x known, (l, subst (λ (rows : List PlainList). (list_in rows l).phase ≡ Open) (sym rows_are) phase, subst (λ (rows : List PlainList). StandsIn (list_in rows l) k x) (sym rows_are) stands))
+
+pub returns-clause-stays : goal.returns-clause-stays
+returns-clause-stays c = subst (λ (p : Plain). StayFiled p.lists c.self.inside.rows.items) c.self.view_is (stay_same c.self.inside.rows.items)
+
+pub returns-clause-kept : goal.returns-clause-kept
+returns-clause-kept c = slots_stay _ _ (returns-clause-stays c)
+
+pub returns-clause-borne : goal.returns-clause-borne
+returns-clause-borne c = λ f borne. borne_stays _ _ (returns-clause-stays c) f (λ some. still_out_counted c.self.inside.out.items c.len-now.result c.index_mut.result.now f.birth (subst (λ (p : Plain). 0 < get_or p.out f.birth 0) (sym c.self.view_is) some)) borne

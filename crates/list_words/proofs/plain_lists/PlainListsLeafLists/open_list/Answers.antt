@@ -6,6 +6,11 @@ use Rattle.list_words.specs.PlainKept.{plain_of}
 use Rattle.list_words.proofs.StoreLaws.{known_changed, list_is, nothing_stands, store_changed, within_rows}
 use Rattle.list_words.specs.Plain.{SameFiled}
 use Rattle.list_words.proofs.StoreLaws.{filed_changed}
+use Rattle.list_words.proofs.SlotLaws.{borne_same, slots_stay, stay_changed}
+use Rattle.list_words.specs.Plain.{Plain, StayFiled}
+use Rattle.std.proofs.Common.{set}
+use Rattle.list_words.proofs.SlotLaws.{fresh_phase}
+use Rattle.list_words.specs.declared.leaf_lists.Phase.TheVariants.{Fresh, Shut}
 use Rattle.list_words.proofs.plain_lists.PlainListsLeafLists.open_list.Goals as goal
 
 pub returns-clause-store : goal.returns-clause-store
@@ -28,3 +33,21 @@ returns-clause-same_filed c =
     let is : c.index_mut-row.result.now ≡ list_in c.self.inside.rows.items c.args.list = list_is c.self.inside.rows.items c.args.list c.index_mut-row.result.now low c.index_mut-row.ensures.value in
     subst (λ p. SameFiled p (with_list (plain_of c.self.inside) c.args.list c.open.new.self)) c.self.view_is
     (filed_changed (plain_of c.self.inside) c.args.list c.index_mut-row.result.now c.open.new.self low is (ap (λ (q : PlainList). q.filed) c.open.ensures.opened ∙ sym c.open.ensures.empty.2))
+
+pub returns-clause-stays : goal.returns-clause-stays
+returns-clause-stays c =
+    let low : c.args.list < length c.self.inside.rows.items = within_rows (plain_of c.self.inside) c.args.self.now c.args.list c.self.view_is c.requires.below in
+    let is : c.index_mut-row.result.now ≡ list_in c.self.inside.rows.items c.args.list = list_is c.self.inside.rows.items c.args.list c.index_mut-row.result.now low c.index_mut-row.ensures.value in
+    subst (λ (p : Plain). StayFiled p.lists (set c.self.inside.rows.items c.args.list c.open.new.self)) c.self.view_is
+    (stay_changed c.self.inside.rows.items c.args.list c.index_mut-row.result.now c.open.new.self low is
+    (λ owned x d i at. absurd (nothing_stands owned c.index_mut-row.result.now x d i c.open.ensures.empty.0 c.open.ensures.empty.1 at))
+    (λ shut_now. absurd (differ (sym (ap (λ (q : PlainList). q.phase) is ∙ fresh_phase (plain_of c.self.inside) c.args.self.now c.args.list c.self.view_is c.requires.new) ∙ shut_now))))
+  where
+    differ : Fresh ≡ Shut → ⊥
+    differ e = cc
+
+pub returns-clause-kept : goal.returns-clause-kept
+returns-clause-kept c = slots_stay _ _ (returns-clause-stays c)
+
+pub returns-clause-borne : goal.returns-clause-borne
+returns-clause-borne c = λ f borne. borne_same _ _ (returns-clause-stays c) (ap (λ (p : Plain). p.out) c.self.view_is) f borne

@@ -6,6 +6,10 @@ use Rattle.list_words.specs.PlainKept.{plain_of}
 use Rattle.list_words.proofs.StoreLaws.{SameShape, homed-same, known_same, list_is, ordered-same, same_shape, store_changed, summed-same, within_rows}
 use Rattle.list_words.specs.Plain.{SameFiled}
 use Rattle.list_words.proofs.StoreLaws.{filed_changed}
+use Rattle.list_words.proofs.SlotLaws.{borne_same, slots_stay, stay_changed}
+use Rattle.list_words.specs.Plain.{Plain, StayFiled}
+use Rattle.std.proofs.Common.{set}
+use Rattle.list_words.proofs.StoreLaws.{stands_same}
 use Rattle.list_words.proofs.plain_lists.PlainListsLeafLists.reserve.Goals as goal
 
 pub returns-in_err-reserve-clause-known : goal.returns-in_err-reserve-clause-known
@@ -64,3 +68,33 @@ returns-clause-same_filed c =
     let is : c.index_mut-row.result.now ≡ list_in c.self.inside.rows.items c.args.list = list_is c.self.inside.rows.items c.args.list c.index_mut-row.result.now low c.index_mut-row.ensures.value in
     subst (λ p. SameFiled p (with_list (plain_of c.self.inside) c.args.list c.reserve.new.self)) c.self.view_is
     (filed_changed (plain_of c.self.inside) c.args.list c.index_mut-row.result.now c.reserve.new.self low is (ap (λ (q : PlainList). q.filed) c.in_ok-reserve.ensures.ok))
+
+pub returns-in_err-reserve-clause-stays : goal.returns-in_err-reserve-clause-stays
+returns-in_err-reserve-clause-stays c =
+    let low : c.args.list < length c.self.inside.rows.items = within_rows (plain_of c.self.inside) c.args.self.now c.args.list c.self.view_is c.requires in
+    let is : c.index_mut-row.result.now ≡ list_in c.self.inside.rows.items c.args.list = list_is c.self.inside.rows.items c.args.list c.index_mut-row.result.now low c.index_mut-row.ensures.value in
+    subst (λ (p : Plain). StayFiled p.lists (set c.self.inside.rows.items c.args.list c.reserve.new.self)) c.self.view_is
+    (stay_changed c.self.inside.rows.items c.args.list c.index_mut-row.result.now c.reserve.new.self low is
+    (λ owned x d i at. stands_same owned c.index_mut-row.result.now c.reserve.new.self (ap (chain owned) c.in_err-reserve.ensures.err) (ap (chain_items owned) c.in_err-reserve.ensures.err) x d i at)
+    (λ e. ap (λ (q : PlainList). q.phase) c.in_err-reserve.ensures.err ∙ e))
+
+pub returns-in_err-reserve-clause-kept : goal.returns-in_err-reserve-clause-kept
+returns-in_err-reserve-clause-kept c = slots_stay _ _ (returns-in_err-reserve-clause-stays c)
+
+pub returns-in_err-reserve-clause-borne : goal.returns-in_err-reserve-clause-borne
+returns-in_err-reserve-clause-borne c = λ f borne. borne_same _ _ (returns-in_err-reserve-clause-stays c) (ap (λ (p : Plain). p.out) c.self.view_is) f borne
+
+pub returns-clause-stays : goal.returns-clause-stays
+returns-clause-stays c =
+    let low : c.args.list < length c.self.inside.rows.items = within_rows (plain_of c.self.inside) c.args.self.now c.args.list c.self.view_is c.requires in
+    let is : c.index_mut-row.result.now ≡ list_in c.self.inside.rows.items c.args.list = list_is c.self.inside.rows.items c.args.list c.index_mut-row.result.now low c.index_mut-row.ensures.value in
+    subst (λ (p : Plain). StayFiled p.lists (set c.self.inside.rows.items c.args.list c.reserve.new.self)) c.self.view_is
+    (stay_changed c.self.inside.rows.items c.args.list c.index_mut-row.result.now c.reserve.new.self low is
+    (λ owned x d i at. stands_same owned c.index_mut-row.result.now c.reserve.new.self (ap (chain owned) c.in_ok-reserve.ensures.ok) (ap (chain_items owned) c.in_ok-reserve.ensures.ok) x d i at)
+    (λ e. ap (λ (q : PlainList). q.phase) c.in_ok-reserve.ensures.ok ∙ e))
+
+pub returns-clause-kept : goal.returns-clause-kept
+returns-clause-kept c = slots_stay _ _ (returns-clause-stays c)
+
+pub returns-clause-borne : goal.returns-clause-borne
+returns-clause-borne c = λ f borne. borne_same _ _ (returns-clause-stays c) (ap (λ (p : Plain). p.out) c.self.view_is) f borne

@@ -1,18 +1,22 @@
 use Rattle.std.proofs.Common.{◌≡◌, ℕ, ◌+◌, ◌<◌, ◌≤◌, ◌*◌, List, [], ◌∷◌, ◌++◌, length, map, set, Some, ap, sym, subst, ◌∙◌, arith}
 use Rattle.std.specs.List.{Contains, slice_get}
 use Rattle.std.proofs.lemmas.List.{length-append, length-map, length-set}
-use Rattle.list_words.specs.Store.{Row, AreMarks, Keeps, Stood, is_shut, row, shut_now}
+use Rattle.list_words.specs.Store.{Row, AreMarks, Keeps, is_shut, row, shut_now}
 use Rattle.list_words.specs.PlainRows.{PlainList, items_of, row_of, shut_list}
-use Rattle.list_words.specs.Plain.{Plain, Knows, StandsIn, chain, chain_items, chunk_count, list_in, store_of, with_list}
+use Rattle.list_words.specs.Plain.{Plain, Knows, chain, chain_items, chunk_count, list_in, store_of, with_list}
 use Rattle.list_words.specs.PlainKept.{AreOrdered, AreSummed, plain_of}
 use Rattle.list_words.specs.declared.leaf_lists.Phase.TheVariants.{Open}
 use Rattle.list_words.proofs.ChunkLaws.{summed-shut}
-use Rattle.list_words.proofs.MarkLaws.{found_stands}
+use Rattle.list_words.proofs.MarkLaws.{found_stands, marks_by}
 use Rattle.list_words.proofs.PlainLaws.{homed-set, list_in-set_same, row-map}
 use Rattle.list_words.proofs.SeatLaws.{ordered-shut}
-use Rattle.list_words.proofs.StoreLaws.{held-le, known_same, list_is, open_low, open_phase, shut-le, shut_found, stands_among, store_shut, swept_marks}
+use Rattle.list_words.proofs.StoreLaws.{held-le, known_same, list_is, open_low, open_phase, shut-le, shut_found, stands_among, store_shut, swept_slots}
 use Rattle.list_words.specs.Plain.{SameFiled}
 use Rattle.list_words.proofs.StoreLaws.{filed_changed}
+use Rattle.list_words.proofs.SlotLaws.{borne_stays, slots_stay, stay_changed, still_out_later}
+use Rattle.list_words.specs.Plain.{HasSlot, StayFiled}
+use Rattle.std.proofs.Common.{get_or}
+use Rattle.list_words.proofs.StoreLaws.{stands_same}
 use Rattle.list_words.proofs.plain_lists.PlainListsLeafLists.shut_and_sweep.Goals as goal
 
 pub overflow_add-self-2 : goal.overflow_add-self-2
@@ -115,18 +119,21 @@ returns-clause-found c =
     let is : c.index_mut-row.result.now ≡ L = list_is c.self.inside.rows.items c.args.list c.index_mut-row.result.now low c.index_mut-row.ensures.value in
     c.sweep.ensures.found ∙ ap (λ (xs : List ℕ). c.args.out.now.items ++ xs) (sym (shut_found (plain_of c.self.inside) c.args.list c.index_mut-row.result.now c.sweep.new.self low c.sweep.ensures.shut))
 
-pub returns-clause-marks : goal.returns-clause-marks
-returns-clause-marks c =
+pub returns-clause-slots : goal.returns-clause-slots
+returns-clause-slots c =
     let low : c.args.list < length c.self.inside.rows.items = open_low (plain_of c.self.inside) c.args.self.now c.args.list c.self.view_is c.requires.takes in
     let lists : List PlainList = set c.self.inside.rows.items c.args.list c.sweep.new.self in
     let here : list_in lists c.args.list ≡ c.sweep.new.self = list_in-set_same c.self.inside.rows.items c.args.list c.sweep.new.self low in
     let q : PlainList = c.sweep.new.self in
     let e : q ≡ shut_list c.index_mut-row.result.now = c.sweep.ensures.shut in
-    let marks : AreMarks (Stood (StandsIn q)) (length q.filed) (row_of q) = swept_marks q (ap (λ (b : PlainList). b.phase) e)
+    let marks : AreMarks (HasSlot q) (length q.filed) (row_of q) = swept_slots q (ap (λ (b : PlainList). b.phase) e)
     (subst (λ (b : PlainList). length b.filed ≤ 256 * length b.claimed) (sym e) c.sweep.ensures.filed)
     (subst (λ (b : PlainList). length b.placed ≤ 256 * length b.owned) (sym e) c.sweep.ensures.placed) in
-    subst (λ (r : Row). AreMarks (Stood (StandsIn (list_in lists c.args.list))) (length (list_in lists c.args.list).filed) r) (sym (row-map lists c.args.list))
-    (subst (λ (b : PlainList). AreMarks (Stood (StandsIn b)) (length b.filed) (row_of b)) (sym here) marks)
+    subst (λ (r : Row). AreMarks (HasSlot (list_in lists c.args.list)) (length (list_in lists c.args.list).filed) r) (sym (row-map lists c.args.list))
+    (subst (λ (b : PlainList). AreMarks (HasSlot b) (length b.filed) (row_of b)) (sym here) marks)
+
+pub returns-clause-marks : goal.returns-clause-marks
+returns-clause-marks c = marks_by _ _ (λ d k y shown x is. let at : HasSlot _ d k (Some x) = subst (HasSlot _ d k) is shown in (at.0, k, at.1)) _ _ (returns-clause-slots c)
 
 pub returns-clause-stands : goal.returns-clause-stands
 returns-clause-stands c = λ x inside. found_stands _ _ _ (returns-clause-marks c) x inside
@@ -160,3 +167,20 @@ returns-clause-all c =
     let low : c.args.list < length c.self.inside.rows.items = open_low (plain_of c.self.inside) c.args.self.now c.args.list c.self.view_is c.requires.takes in
     let is : c.index_mut-row.result.now ≡ list_in c.self.inside.rows.items c.args.list = list_is c.self.inside.rows.items c.args.list c.index_mut-row.result.now low c.index_mut-row.ensures.value in
     c.sweep.ensures.found ∙ ap (λ (q : PlainList). c.args.out.now.items ++ items_of q) is ∙ ap (λ (p : Plain). c.args.out.now.items ++ items_of (list_in p.lists c.args.list)) c.self.view_is
+
+pub returns-clause-stays : goal.returns-clause-stays
+returns-clause-stays c =
+    let low : c.args.list < length c.self.inside.rows.items = open_low (plain_of c.self.inside) c.args.self.now c.args.list c.self.view_is c.requires.takes in
+    let is : c.index_mut-row.result.now ≡ list_in c.self.inside.rows.items c.args.list = list_is c.self.inside.rows.items c.args.list c.index_mut-row.result.now low c.index_mut-row.ensures.value in
+    subst (λ (p : Plain). StayFiled p.lists (set c.self.inside.rows.items c.args.list c.sweep.new.self)) c.self.view_is
+    (stay_changed c.self.inside.rows.items c.args.list c.index_mut-row.result.now c.sweep.new.self low is
+    (λ owned x d i at. stands_same owned c.index_mut-row.result.now c.sweep.new.self (ap (chain owned) c.sweep.ensures.shut) (ap (chain_items owned) c.sweep.ensures.shut) x d i at)
+    (λ e. ap (λ (q : PlainList). q.phase) c.sweep.ensures.shut))
+
+pub returns-clause-kept : goal.returns-clause-kept
+returns-clause-kept c = slots_stay _ _ (returns-clause-stays c)
+
+pub returns-clause-borne : goal.returns-clause-borne
+returns-clause-borne c = λ f borne.
+    let out : c.push_within-2.new.values.items ≡ c.args.self.now.out ++ 0 ∷ [] = c.push_within-2.ensures.items ∙ ap (λ (p : Plain). p.out ++ 0 ∷ []) c.self.view_is in
+    borne_stays _ _ (returns-clause-stays c) f (λ some. subst (λ (xs : List ℕ). 0 < get_or xs f.birth 0) (sym out) (still_out_later c.args.self.now.out f.birth some)) borne

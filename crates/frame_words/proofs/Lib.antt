@@ -1,0 +1,5 @@
+pub mod Adding
+pub mod Kept
+pub mod United
+pub mod Counted
+pub mod Cuts

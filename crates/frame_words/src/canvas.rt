@@ -17,9 +17,6 @@ use std::alloc::{AllocError, Global};
 use std::marker::Model;
 use std::thread::Threads;
 
-/// The most threads that draw on a canvas at once.
-pub const MOST_WORKERS: u32 = 16;
-
 /// A picture while threads draw items: of each pixel one word, the least key so far. It can be used again for
 /// the next frame. It is seen as the bag of the items drawn so far, by `Shows`.
 #[derive(Drop)]
@@ -56,7 +53,7 @@ impl SharedCanvas {
         })
     }
 
-    /// Draws the items of parts by 1 to 16 threads, each of which draws as many items as the others.
+    /// Draws the items of parts by 1 to 16 threads, each of which is given about as many items as the others.
     pub fn draw<R: Threads + Sync>(&mut self, rt: &R, parts: &[Part], workers: u32)
         requires parts { All IsPart parts.now }
         requires few { length (all_items parts.now) < 2 ^ 64 }

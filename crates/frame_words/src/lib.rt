@@ -11,6 +11,6 @@ mod rule;
 mod tests;
 mod words;
 
-pub use canvas::{MOST_WORKERS, SharedCanvas, splat_parallel};
+pub use canvas::{SharedCanvas, splat_parallel};
 pub use laws::a_canvas_may_go_to_another_thread;
 pub use parts::Part;

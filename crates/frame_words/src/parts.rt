@@ -35,7 +35,14 @@ impl<'a> Part<'a> {
     }
 
     /// Draws the part's items from the first one on, before the end.
-    pub fn draw(&self, desk: &Desk, camera: &Camera, seat: &mut Chair, first: usize, end: usize)
+    pub(crate) fn draw(
+        &self,
+        desk: &Desk,
+        camera: &Camera,
+        seat: &mut Chair,
+        first: usize,
+        end: usize,
+    )
         requires part { IsPart self.now }
         requires ordered { first ≤ end }
         requires within { end ≤ length (part_items self.now) }

@@ -22,7 +22,7 @@ part_stays first len ps qs low =
     ap (take len) (drop-append-le first ps qs (omega arith)) ∙ take-append-le len (drop first ps) qs (omega (arith, length-drop first ps))
 
 -- functions that agree on each element give the same list
-same_map : {X Y : Type 0} (P : X → Type 0) (f g : X → Y) (xs : List X) → All P xs → ((x : X) → P x → f x ≡ g x) → map f xs ≡ map g xs
+pub same_map : {X Y : Type 0} (P : X → Type 0) (f g : X → Y) (xs : List X) → All P xs → ((x : X) → P x → f x ≡ g x) → map f xs ≡ map g xs
 same_map P f g [] all same = refl
 same_map P f g (x ∷ xs) all same = (λ i. same x (All-head P x xs all) i ∷ same_map P f g xs (All-tail P x xs all) same i)
 
@@ -37,8 +37,31 @@ admission_stays events e r a = record {
   len = a.len;
 }
 
-each_stays : (events : Record) (e : Event × ℕ) (rows : List BatchRowValue) → All (HasAdmission events) rows → All (HasAdmission (events ++ e ∷ [])) rows
+pub each_stays : (events : Record) (e : Event × ℕ) (rows : List BatchRowValue) → All (HasAdmission events) rows → All (HasAdmission (events ++ e ∷ [])) rows
 each_stays events e rows all = λ k d low. admission_stays events e _ (all k d low)
+
+-- the rows of batches are those of the record behind an event that publishes nothing
+pub batches_stay : (events : Record) (rows : List BatchRowValue) (e : Event × ℕ) (more : List PointValue)
+    → journal (e ∷ []) ≡ [] → admitted_points (events ++ e ∷ []) ≡ admitted_points events ++ more → AreBatchesOf events rows
+    → AreBatchesOf (events ++ e ∷ []) rows
+batches_stay events rows e more none items are =
+    let after : Record = events ++ e ∷ [] in
+    let entries : journal after ≡ journal events =
+    journal-append events (e ∷ []) ∙ ap (λ (l : List JournalEntry). journal events ++ l) none ∙ append-nil (journal events) in
+    let same : map (entry_of_row after) rows ≡ map (entry_of_row events) rows =
+    same_map (λ (r : BatchRowValue). r.first + r.len ≤ length (admitted_points events)) (entry_of_row after) (entry_of_row events) rows are.within
+    (λ r low. ap (λ (ps : List PointValue). record { input = r.input; loader = r.loader; points = ps })
+    (ap (λ (ps : List PointValue). take r.len (drop r.first ps)) items ∙ part_stays r.first r.len (admitted_points events) more low)) in
+    record {
+      entries = same ∙ are.entries ∙ sym entries;
+      numbers = are.numbers;
+      within = λ k d low. further (length more) (are.within k d low) (ap length items ∙ length-append (admitted_points events) more);
+      admitted = each_stays events e rows are.admitted;
+      apart = are.apart;
+    }
+  where
+    further : {a n l : ℕ} (m : ℕ) → a ≤ n → l ≡ n + m → a ≤ l
+    further m low e = omega arith
 
 -- an event that publishes nothing changes no version
 pub stays : (config : Config) (events : Record) (v : VersionValue) (e : Event × ℕ) (more : List PointValue)
@@ -50,26 +73,12 @@ stays config events v e more none nothing items is =
     journal-append events (e ∷ []) ∙ ap (λ (l : List JournalEntry). journal events ++ l) none ∙ append-nil (journal events) in
     let points : published after ≡ published events = ap flat entries in
     let until : up_to_publication after ≡ up_to_publication events = ends_before events (e ∷ []) none nothing in
-    let rows : AreBatchesOf events v.batches = is.batches in
-    let same : map (entry_of_row after) v.batches ≡ map (entry_of_row events) v.batches =
-    same_map (λ (r : BatchRowValue). r.first + r.len ≤ length (admitted_points events)) (entry_of_row after) (entry_of_row events) v.batches rows.within
-    (λ r low. ap (λ (ps : List PointValue). record { input = r.input; loader = r.loader; points = ps })
-    (ap (λ (ps : List PointValue). take r.len (drop r.first ps)) items ∙ part_stays r.first r.len (admitted_points events) more low)) in
     record {
       cube = is.cube;
       nodes = is.nodes ∙ sym (nodes_stay config events after points until);
-      batches = record {
-        entries = same ∙ rows.entries ∙ sym entries;
-        numbers = rows.numbers;
-        within = λ k d low. further (length more) (rows.within k d low) (ap length items ∙ length-append (admitted_points events) more);
-        admitted = each_stays events e v.batches rows.admitted;
-        apart = rows.apart;
-      };
+      batches = batches_stay events v.batches e more none items is.batches;
     }
   where
-    further : {a n l : ℕ} (m : ℕ) → a ≤ n → l ≡ n + m → a ≤ l
-    further m low e = omega arith
-
     nodes_stay : (config : Config) (events after : Record) → published after ≡ published events → up_to_publication after ≡ up_to_publication events
         → facts_of_nodes config after ≡ facts_of_nodes config events
     nodes_stay config events after points until = (λ i. map (λ (n : OutlineNode). record {

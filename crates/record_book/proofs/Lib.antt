@@ -1,0 +1,6 @@
+mod BookLaws
+mod FactLaws
+mod KeptLaws
+mod PlaceLaws
+mod SearchLaws
+mod ViewLaws

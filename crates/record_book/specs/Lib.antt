@@ -1,0 +1,3 @@
+pub mod BookKept
+pub mod Books
+pub mod KeptBatches

@@ -56,6 +56,7 @@ before_below : (path : List ℕ) (g : ℕ) (n : OutlineNode) → IsBelow path g 
 before_below path g n b = subst (λ (q : List ℕ). StandsBefore path q) (sym b.is) (before_longer path b.octant b.rest)
 
 octant_before : (path : List ℕ) (g : ℕ) (m n : OutlineNode) → IsFrom (path ++ g ∷ []) m → IsBelow path (g + 1) n → StandsBefore m.path n.path
+unfolding below_octant
 octant_before path g m n f b =
     let here : IsBelow path g m = below_octant path g m f in
     subst (λ (q : List ℕ). StandsBefore q n.path) (sym here.is)
@@ -157,7 +158,7 @@ octree_ordered leaf (suc depth) cube ps =
       | inl more ↦
           let T : ℕ → Tree = λ g. octree_at leaf depth (child cube g) q in
           let node : InnerNode = record { count = length q; voxels = voxels cube q; trees = map T (up_to 8) } in
-          rw (lt-leb leaf (length q) more) (subst IsOrdered (sym (outline_at-Inner node))
+          rw (lt-leb (length q) leaf more) (subst IsOrdered (sym (outline_at-Inner node))
           (inner_ordered (map outline_at node.trees) (trees_ordered T (λ g. octree_ordered leaf depth (child cube g) q) (up_to 8))))
       | inr few ↦ rw (le-leb (length q) leaf few) (subst IsOrdered (sym (outline_at-Leaf q)) leaf_ordered)
     ]

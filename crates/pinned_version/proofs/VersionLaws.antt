@@ -1,5 +1,5 @@
 -- The rows of versions: which nodes they are of, and what halving finds among them.
-use Rattle.std.proofs.Common.{◌≡◌, ℕ, ◌+◌, ◌<◌, ◌≤◌, Bool, true, false, List, [], ◌∷◌, map, length, get_or, AllPairs, Contains, refl, sym, ap, ◌∙◌, subst, inl, inr, arith, length-map}
+use Rattle.std.proofs.Common.{Option, Some, None, IfNone, ◌≡◌, ℕ, ◌+◌, ◌<◌, ◌≤◌, Bool, true, false, List, [], ◌∷◌, map, length, get_or, AllPairs, Contains, refl, sym, ap, ◌∙◌, subst, inl, inr, arith}
 use Rattle.std.specs.Cmp.{IsTotalOrder}
 use Rattle.std.specs.Cmp.Lexicographic.{slice_cmp}
 use Rattle.std.specs.List.{AllWithin, HoldsAt}
@@ -9,7 +9,7 @@ use Rattle.std.specs.declared.cmp.Ordering.{Ordering}
 use Rattle.std.specs.declared.cmp.Ordering.TheVariants.{Less, Equal, Greater}
 use Rattle.std.proofs.lemmas.Bool.{cases_lt}
 use Rattle.std.proofs.lemmas.Cmp.{nat_list_cmp_total, tied_itself}
-use Rattle.std.proofs.lemmas.List.{get_or-map, get_or_default}
+use Rattle.std.proofs.lemmas.List.{get_or-map, get_or_default, length-map}
 use Rattle.std.proofs.lemmas.List.Sorted.{searchable_from_sorted}
 use Rattle.std.proofs.lemmas.Map.Lookups.{exact_bytes}
 use Rattle.cube_math.specs.declared.config.Config.{Config}
@@ -17,10 +17,13 @@ use Rattle.octree_model.specs.Octree.{octree}
 use Rattle.octree_model.specs.Outlines.{outline}
 use Rattle.octree_model.specs.declared.outline.OutlineNode.{OutlineNode}
 use Rattle.record_model.specs.Records.{Record, published}
+use Rattle.version_rows.specs.Versions.{ChainsValue}
 use Rattle.version_rows.specs.Journals.{IsVersionOf, NodeFacts, facts_of_node, facts_of_row}
 use Rattle.pinned_version.specs.Pinned.{AreInPathOrder, IsRowAt, PinnedValue, StandsBefore, version_of}
 use Rattle.pinned_version.specs.Rows.{outline_node_of, row_of}
 use Rattle.pinned_version.specs.declared.node_row.NodeRow.{NodeRow}
+use Rattle.pinned_version.specs.declared.node_row.Role.TheVariants.{Leaf, Inner}
+use Rattle.voxel_sampler.specs.Nears.{NearValue}
 use Rattle.pinned_version.proofs.PathOrderLaws.{outline_in_order}
 
 -- ---- the nodes of a record's version
@@ -77,7 +80,7 @@ no_less_after : (a b : List ℕ) → StandsBefore a b → is_lt (slice_cmp nat_c
 no_less_after a b before = ap is_lt (nat_list_cmp_total.antisymm b a ∙ ap ordering_reverse before)
 
 rows_sorted : (rows : List NodeRow) → AreInPathOrder rows → IsSortedBy (λ (a b : NodeRow). is_lt (slice_cmp nat_cmp a.path b.path)) rows
-rows_sorted rows order = λ k d low within. no_less_after _ _ (order k (k + 1) d (omega arith) within)
+rows_sorted rows order = λ k d low within. no_less_after (get_or rows k d).path (get_or rows (k + 1) d).path (order k (k + 1) d (omega arith) within)
 
 -- halving may look for a path among rows in path order
 pub rows_rise : (rows : List NodeRow) (path : List ℕ) → AreInPathOrder rows
@@ -117,6 +120,9 @@ one_row rows path a b order is_a is_b = elim (cases_lt is_a.there.0 is_b.there.0
   ]
 ]
   where
+    within_any : (k : ℕ) (d e : NodeRow) → k < length rows → get_or rows k d ≡ get_or rows k e
+    within_any k d e less = get_or_default rows k d e less
+
     apart : (i j : ℕ) (x y : NodeRow) → get_or rows i x ≡ x → get_or rows j y ≡ y → i < j → j < length rows → x.path ≡ path → y.path ≡ path → ⊥
     apart i j x y at_i at_j less within e f =
         let here : get_or rows i y ≡ x = within_any i y x (omega arith) ∙ at_i in
@@ -124,5 +130,36 @@ one_row rows path a b order is_a is_b = elim (cases_lt is_a.there.0 is_b.there.0
         not_before path (subst (λ (q : List ℕ). StandsBefore path q) (ap (λ (r : NodeRow). r.path) at_j ∙ f)
         (subst (λ (q : List ℕ). StandsBefore q (get_or rows j y).path) (ap (λ (r : NodeRow). r.path) here ∙ e) before))
 
-    within_any : (k : ℕ) (d e : NodeRow) → k < length rows → get_or rows k d ≡ get_or rows k e
-    within_any k d e less = get_or_default rows k d e less
+-- ---- what halving finds
+
+-- a row stands at a path, and no other one does
+pub record IsOnlyRow (rows : List NodeRow) (path : List ℕ) (row : NodeRow) : Type 0 where
+  pub found : IsRowAt rows path row
+  pub only : (other : NodeRow) → IsRowAt rows path other → other ≡ row
+
+pub found_at : (xs ys zs : List NodeRow) (path : List ℕ) (at : ℕ) (row : NodeRow) → xs ≡ ys → ys ≡ zs → AreInPathOrder ys → at < length xs
+    → row ≡ get_or ys at row → HoldsAt (λ (y : NodeRow). compared path y ≡ Equal) xs at → IsOnlyRow zs path row
+found_at xs ys zs path at row e f order within read equal =
+    let here : IsRowAt ys path row = row_found ys path at row (omega (arith, ap length e)) read
+    (subst (λ (l : List NodeRow). HoldsAt (λ (y : NodeRow). compared path y ≡ Equal) l at) e equal) in
+    subst (λ (l : List NodeRow). IsOnlyRow l path row) f record { found = here; only = λ other is. one_row ys path row other order here is }
+
+pub missing_at : (xs ys zs : List NodeRow) (path : List ℕ) (at : ℕ) → xs ≡ ys → ys ≡ zs → AreInPathOrder ys
+    → (IsNonDecreasingBy (λ (y : NodeRow). ordering_index (compared path y)) xs
+    → IsPartitionPoint (λ (y : NodeRow). compared path y ≡ Less) (λ (y : NodeRow). compared path y ≡ Greater) xs at)
+    → (row : NodeRow) → IsRowAt zs path row → ⊥
+missing_at xs ys zs path at e f order parts row is =
+    row_missing xs path at (parts (rows_rise xs path (subst AreInPathOrder (sym e) order))) row (subst (λ (l : List NodeRow). IsRowAt l path row) (sym (e ∙ f)) is)
+
+-- ---- leaves are no inner nodes
+
+pub leaf_is_not_inner : (a b : NodeRow) (chains : ChainsValue) (runs : List (List NearValue)) → a ≡ b → a.role ≡ Leaf chains → b.role ≡ Inner runs → ⊥
+leaf_is_not_inner a b chains runs same leaf inner = apart (sym leaf ∙ ap (λ (r : NodeRow). r.role) same ∙ inner)
+  where
+    apart : Leaf chains ≡ Inner runs → ⊥
+    apart e = cc
+
+-- what holds anyway holds where there is none
+pub if_none_anyway : {A : Type 0} (o : Option A) (P : Type 0) → P → IfNone o P
+if_none_anyway None P holds = holds
+if_none_anyway (Some x) P holds = tt

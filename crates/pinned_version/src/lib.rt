@@ -2,7 +2,6 @@
 //! number.
 #![tactic(auto)]
 
-mod batch_row;
 mod laws;
 mod node_row;
 mod point_book;
@@ -10,8 +9,8 @@ mod point_book;
 mod tests;
 mod version;
 
-pub use batch_row::BatchRow;
 pub use laws::{books_tell_all_items, versions_go_to_threads, versions_show_octrees};
 pub use node_row::{Chains, NodeRow, Role, Runs};
 pub use point_book::{BookBatch, PointBook};
 pub use version::Version;
+pub use version_rows::BatchRow;

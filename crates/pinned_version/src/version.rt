@@ -5,12 +5,12 @@ ghost use Rattle.pinned_version.specs.Pinned.{AreInPathOrder, IsInnerRow, IsLeaf
 ghost use Rattle.pinned_version.specs.Rows.{outline_node_of};
 ghost use Rattle.pinned_version.specs.declared.node_row.NodeRow.{NodeRow};
 
-use crate::batch_row::BatchRow;
 use crate::node_row::{Chains, NodeRow, Role, Runs};
 use cube_math::{Cube, Path};
 use octree_model::OutlineNode;
 use std::alloc::{AllocError, Global};
 use std::marker::Model;
+use version_rows::BatchRow;
 
 /// The nodes and batches of a store as a publication left them. It holds no points.
 #[derive(Drop)]

@@ -10,7 +10,8 @@ use Rattle.item_moves.specs.Homes.{IsAlone, OnlyPlaced, OnlyHome}
 use Rattle.item_moves.proofs.HomeLaws.{open_was}
 
 -- ---- homes of many items
-pub alone_still : (s t : Store) (leaf : ℕ → ℕ) (before now : List ℕ) (x : ℕ) → OnlyPlaced s t → OnlyHome leaf before now → IsAlone s before x (leaf x) → IsAlone t now x (leaf x)
+pub alone_still : (s t : Store) (leaf : ℕ → ℕ) (before now : List ℕ) (x : ℕ) → OnlyPlaced s t → OnlyHome leaf before now → IsAlone s before x (leaf x)
+    → IsAlone t now x (leaf x)
 alone_still s t leaf before now x p h alone l o e = elim (h.each x) [
   | inl same ↦ alone l (open_was s t l p o) (sym same ∙ e)
   | inr home ↦ sym e ∙ home
@@ -19,11 +20,14 @@ alone_still s t leaf before now x p h alone l o e = elim (h.each x) [
 pub home_none : (leaf : ℕ → ℕ) (homes : List ℕ) → OnlyHome leaf homes homes
 home_none leaf homes = record { many = refl; each = λ x. inl refl }
 
-pub home_more : (leaf : ℕ → ℕ) (before now new : List ℕ) (x : ℕ) → OnlyHome leaf before now → x < length before → new ≡ set now x (leaf x) → OnlyHome leaf before new
+pub home_more : (leaf : ℕ → ℕ) (before now new : List ℕ) (x : ℕ) → OnlyHome leaf before now → x < length before → new ≡ set now x (leaf x)
+    → OnlyHome leaf before new
 home_more leaf before now new x h low e = record {
   many = ap length e ∙ length-set now x (leaf x) ∙ h.many;
   each = λ y. elim (cases_eq y x) [
-    | inl same ↦ inr (ap (λ hs. get_or hs y 0) e ∙ ap (λ k. get_or (set now x (leaf x)) k 0) same ∙ get_or-set_same now x (leaf x) 0 (omega (arith, h.many)) ∙ ap leaf (sym same))
+    | inl same ↦
+        inr (ap (λ hs. get_or hs y 0) e ∙ ap (λ k. get_or (set now x (leaf x)) k 0) same ∙ get_or-set_same now x (leaf x) 0 (omega (arith, h.many))
+        ∙ ap leaf (sym same))
     | inr other ↦
         let is : get_or new y 0 ≡ get_or now y 0 = ap (λ hs. get_or hs y 0) e ∙ get_or-set_other now x y (leaf x) 0 other in
         elim (h.each y) [ inl old ↦ inl (is ∙ old) | inr home ↦ inr (is ∙ home) ]
@@ -53,7 +57,8 @@ only_one z y c = grind (arith, common_steps)
 never : false ≡ true → ⊥
 never e = cc
 
-pub found_more : (leaf : ℕ → ℕ) (covers : ℕ → Bool) (before now new found : List ℕ) (i : ℕ) → AreFound leaf covers now (take i found) → OnlyHome leaf before now → i < length found
+pub found_more : (leaf : ℕ → ℕ) (covers : ℕ → Bool) (before now new found : List ℕ) (i : ℕ) → AreFound leaf covers now (take i found)
+    → OnlyHome leaf before now → i < length found
     → get_or found i 0 < length before → new ≡ set now (get_or found i 0) (leaf (get_or found i 0)) → AreFound leaf covers new (take (i + 1) found)
 unfolding AreFound
 found_more leaf covers before now new found i h only low within e y among can =
@@ -68,7 +73,8 @@ found_more leaf covers before now new found i h only low within e y among can =
       ]
     ]
 
-pub found_same : (leaf : ℕ → ℕ) (covers : ℕ → Bool) (now found : List ℕ) (i : ℕ) → AreFound leaf covers now (take i found) → i < length found → covers (get_or found i 0) ≡ false
+pub found_same : (leaf : ℕ → ℕ) (covers : ℕ → Bool) (now found : List ℕ) (i : ℕ) → AreFound leaf covers now (take i found) → i < length found
+    → covers (get_or found i 0) ≡ false
     → AreFound leaf covers now (take (i + 1) found)
 unfolding AreFound
 found_same leaf covers now found i h low not_here y among can =

@@ -47,7 +47,8 @@ count-set_other (h ∷ homes) zero l m apart ne =
     count_cons (λ k. k == l) m homes ∙ ap (λ b. cond b 1 0 + home_count homes l) (not_here m l (λ e. apart (sym e)) ∙ sym (not_here h l ne))
     ∙ sym (count_cons (λ k. k == l) h homes)
 count-set_other (h ∷ homes) (suc x) l m apart ne =
-    count_cons (λ k. k == l) h (set homes x m) ∙ ap (λ n. cond (h == l) 1 0 + n) (count-set_other homes x l m apart ne) ∙ sym (count_cons (λ k. k == l) h homes)
+    count_cons (λ k. k == l) h (set homes x m) ∙ ap (λ n. cond (h == l) 1 0 + n) (count-set_other homes x l m apart ne)
+    ∙ sym (count_cons (λ k. k == l) h homes)
 
 -- no more have this home than are guests
 count_from : (homes : List ℕ) (guest : ℕ → Bool) (k l : ℕ) → ((x : ℕ) → x < length homes → get_or homes x 0 ≡ l → IsTrue (guest (k + x)))
@@ -100,9 +101,11 @@ no_home homes l x ne = ap (λ b. nat_lt x (length homes) && b) (not_here (get_or
     and_no false = refl
 
 -- ---- homes once an item is placed
-module _ (s : Store) (knows : ℕ → ℕ → ℕ → Type 0) (guest : ℕ → ℕ → Bool) (homes : List ℕ) (t x : ℕ) (h : AreHomed s knows guest homes) (open_now : IsOpen s t) (low : x < length homes)
+module _ (s : Store) (knows : ℕ → ℕ → ℕ → Type 0) (guest : ℕ → ℕ → Bool) (homes : List ℕ) (t x : ℕ) (h : AreHomed s knows guest homes) (open_now : IsOpen s t)
+    (low : x < length homes)
     (can : IsTrue (guest t x)) (ne : get_or homes x 0 ≢ t) where
-  guests_after : (l y : ℕ) → ((z : ℕ) → z < length homes → get_or homes z 0 ≡ l → IsTrue (guest l z)) → y < length (set homes x t) → get_or (set homes x t) y 0 ≡ l
+  guests_after : (l y : ℕ) → ((z : ℕ) → z < length homes → get_or homes z 0 ≡ l → IsTrue (guest l z)) → y < length (set homes x t)
+      → get_or (set homes x t) y 0 ≡ l
       → IsTrue (guest l y)
   guests_after l y old within e =
       elim (cases_eq y x) [
@@ -119,7 +122,8 @@ module _ (s : Store) (knows : ℕ → ℕ → ℕ → Type 0) (guest : ℕ → �
       let most : home_count (set homes x t) t ≤ guest_count guest (length (set homes x t)) t =
       homes_are_guests (set homes x t) guest t (λ y within e. guests_after t y (λ z. h.guests t z open_now) within e) in
       let many : length (set homes x t) ≡ length homes = length-set homes x t in
-      let most' : home_count (set homes x t) t ≤ guest_count guest (length homes) t = subst (λ n. home_count (set homes x t) t ≤ guest_count guest n t) many most in
+      let most' : home_count (set homes x t) t ≤ guest_count guest (length homes) t =
+      subst (λ n. home_count (set homes x t) t ≤ guest_count guest n t) many most in
       omega (arith, h.counted t open_now, h.room t open_now)
 
   -- the phase of each list, its owned chunks and its items are those of before, but for one item more
@@ -146,13 +150,15 @@ module _ (s : Store) (knows : ℕ → ℕ → ℕ → Type 0) (guest : ℕ → �
     once_here : (y : ℕ) → count_by (λ z. z == y) ((row s t).placed ++ x ∷ []) ≡ bit (is_home (set homes x t) t y)
     once_here y =
         let p : ℕ → Bool = λ z. z == y in
-        let both : count_by p ((row s t).placed ++ x ∷ []) ≡ count_by p (row s t).placed + count_by p (x ∷ []) = sum_by-append (λ z. cond (p z) 1 0) (row s t).placed (x ∷ []) in
+        let both : count_by p ((row s t).placed ++ x ∷ []) ≡ count_by p (row s t).placed + count_by p (x ∷ []) =
+        sum_by-append (λ z. cond (p z) 1 0) (row s t).placed (x ∷ []) in
         let one : count_by p (x ∷ []) ≡ bit (x == y) + 0 = count_cons p x [] in
         let old : count_by p (row s t).placed ≡ bit (is_home homes t y) = h.once t y open_now in
         elim (cases_eq y x) [
           | inl same ↦
               let none : bit (is_home homes t y) ≡ 0 = ap bit (no_home homes t y (λ e. ne (ap (λ k. get_or homes k 0) (sym same) ∙ e))) in
-              let is : bit (is_home (set homes x t) t y) ≡ 1 = ap (λ k. bit (is_home (set homes x t) t k)) same ∙ ap bit (home-set_same homes x t t low ∙ eq-eqb t t refl) in
+              let is : bit (is_home (set homes x t) t y) ≡ 1 =
+              ap (λ k. bit (is_home (set homes x t) t k)) same ∙ ap bit (home-set_same homes x t t low ∙ eq-eqb t t refl) in
               let it : bit (x == y) ≡ 1 = ap bit (eq-eqb x y (sym same)) in
               omega (arith, both, one, old, none, is, it)
           | inr other ↦
@@ -176,11 +182,13 @@ module _ (s : Store) (knows : ℕ → ℕ → ℕ → Type 0) (guest : ℕ → �
             let is : t ≡ l = sym (ap (λ k. get_or (set homes x t) k 0) same ∙ get_or-set_same homes x t 0 low) ∙ e in
             subst (λ k. IsKnownIn knows' k y) is (subst (λ k. IsKnownIn knows' t k) (sym same) there)
         | inr other ↦
-            let old : IsKnownIn knows l y = h.known l y (open_before l o) (omega (arith, length-set homes x t)) (sym (get_or-set_other homes x y t 0 other) ∙ e) in
+            let old : IsKnownIn knows l y =
+            h.known l y (open_before l o) (omega (arith, length-set homes x t)) (sym (get_or-set_other homes x y t 0 other) ∙ e) in
             (old.0, keeps l old.0 y old.1)
       ];
       once = λ l y o. elim (cases_eq l t) [
-        | inl same ↦ ap (λ (r : Row). count_by (λ z. z == y) r.placed) (here l same) ∙ once_here y ∙ ap (λ k. cond (is_home (set homes x t) k y) 1 0) (sym same)
+        | inl same ↦
+              ap (λ (r : Row). count_by (λ z. z == y) r.placed) (here l same) ∙ once_here y ∙ ap (λ k. cond (is_home (set homes x t) k y) 1 0) (sym same)
         | inr other ↦
             ap (λ (r : Row). count_by (λ z. z == y) r.placed) (row-with_row_other s t l new other) ∙ h.once l y (open_before l o)
             ∙ ap (λ b. cond b 1 0) (home_elsewhere l y other (open_before l o))
@@ -197,7 +205,8 @@ module _ (s : Store) (knows : ℕ → ℕ → ℕ → Type 0) (guest : ℕ → �
       room = λ l o.
           let before : guest_count guest (length homes) l ≤ 256 * length (row s l).owned = h.room l (open_before l o) in
           let P : ℕ → List ℕ → Type 0 = λ n owned. guest_count guest n l ≤ 256 * length owned in
-          subst (λ n. P n (row (with_row s t new) l).owned) (sym (length-set homes x t)) (subst (λ owned. P (length homes) owned) (sym (owned_same l)) before);
+          subst (λ n. P n (row (with_row s t new) l).owned) (sym (length-set homes x t))
+          (subst (λ owned. P (length homes) owned) (sym (owned_same l)) before);
     }
 
 -- ---- what was placed

@@ -45,8 +45,10 @@ pub none_back : (leaf : ℕ → ℕ) (homes : List ℕ) → AreBack leaf homes [
 unfolding AreBack
 none_back leaf homes a c late = grind (arith, common_steps)
 
-pub back_more : (leaf : ℕ → ℕ) (now new : List ℕ) (answers : List Answer) (i : ℕ) (d : Answer) → AreBack leaf now (take i answers) → OnlyHome leaf now new → i < length answers
-    → (IsTrue (is_late (get_or answers i d).filed) → get_or new (get_or answers i d).item 0 ≡ leaf (get_or answers i d).item) → AreBack leaf new (take (i + 1) answers)
+pub back_more : (leaf : ℕ → ℕ) (now new : List ℕ) (answers : List Answer) (i : ℕ) (d : Answer) → AreBack leaf now (take i answers) → OnlyHome leaf now new
+    → i < length answers
+    → (IsTrue (is_late (get_or answers i d).filed) → get_or new (get_or answers i d).item 0 ≡ leaf (get_or answers i d).item) → AreBack leaf new
+    (take (i + 1) answers)
 unfolding AreBack
 back_more leaf now new answers i d old only low last a c late =
     let b : Answer = get_or answers i d in
@@ -58,22 +60,33 @@ back_more leaf now new answers i d old only low last a c late =
           subst P same last late
     ]
 
-pub late_home : (leaf : ℕ → ℕ) (homes : List ℕ) (answers : List Answer) (a : Answer) → AreBack leaf homes answers → Contains answers a → IsTrue (is_late a.filed) → get_or homes a.item 0 ≡ leaf a.item
+pub late_home : (leaf : ℕ → ℕ) (homes : List ℕ) (answers : List Answer) (a : Answer) → AreBack leaf homes answers → Contains answers a
+    → IsTrue (is_late a.filed) → get_or homes a.item 0 ≡ leaf a.item
 unfolding AreBack
 late_home leaf homes answers a h among late = h a among late
 
 -- ---- the filer is taken back
-pub homed_back : (s : Store) (knows knows' : ℕ → ℕ → ℕ → Type 0) (guest : ℕ → ℕ → Bool) (homes : List ℕ) (birth : ℕ) → AreHomed s knows guest homes → Keeps knows knows'
+pub homed_back : (s : Store) (knows knows' : ℕ → ℕ → ℕ → Type 0) (guest : ℕ → ℕ → Bool) (homes : List ℕ) (birth : ℕ) → AreHomed s knows guest homes
+    → Keeps knows knows'
     → AreHomed (one_less s birth) knows' guest homes
 homed_back s knows knows' guest homes birth h keeps =
-    record { known = λ l x o low e. still_known knows knows' l x keeps (h.known l x o low e); once = h.once; counted = h.counted; guests = h.guests; room = h.room }
+    record {
+      known = λ l x o low e. still_known knows knows' l x keeps
+          (h.known l x o low e);
+      once = h.once;
+      counted = h.counted;
+      guests = h.guests;
+      room = h.room;
+    }
 
-pub settled_back : (s : Store) (leaf : ℕ → ℕ) (covers : ℕ → ℕ → Bool) (homes left : List ℕ) (birth : ℕ) → AreSettled s leaf covers homes left → AreSettled (one_less s birth) leaf covers homes left
+pub settled_back : (s : Store) (leaf : ℕ → ℕ) (covers : ℕ → ℕ → Bool) (homes left : List ℕ) (birth : ℕ) → AreSettled s leaf covers homes left
+    → AreSettled (one_less s birth) leaf covers homes left
 unfolding AreSettled
 settled_back s leaf covers homes left birth h = h
 
 -- what was found is at home
-pub found_home : (s : Store) (leaf : ℕ → ℕ) (covers : ℕ → ℕ → Bool) (homes : List ℕ) (l x : ℕ) → AreSettled s leaf covers homes [] → IsShut s l → Contains (found_in (row s l)) x → IsTrue (covers l x)
+pub found_home : (s : Store) (leaf : ℕ → ℕ) (covers : ℕ → ℕ → Bool) (homes : List ℕ) (l x : ℕ) → AreSettled s leaf covers homes [] → IsShut s l
+    → Contains (found_in (row s l)) x → IsTrue (covers l x)
     → get_or homes x 0 ≡ leaf x
 unfolding AreSettled
 found_home s leaf covers homes l x settled shut among can = elim (settled l x shut among can) [
@@ -82,7 +95,8 @@ found_home s leaf covers homes l x settled shut among can = elim (settled l x sh
 ]
 
 -- a swept list's items stay at home while items come
-pub settled_placed : (s t : Store) (leaf : ℕ → ℕ) (covers : ℕ → ℕ → Bool) (before now : List ℕ) → OnlyPlaced s t → OnlyHome leaf before now → AreSettled s leaf covers before [] → AreSettled t leaf covers now []
+pub settled_placed : (s t : Store) (leaf : ℕ → ℕ) (covers : ℕ → ℕ → Bool) (before now : List ℕ) → OnlyPlaced s t → OnlyHome leaf before now
+    → AreSettled s leaf covers before [] → AreSettled t leaf covers now []
 unfolding AreSettled
 settled_placed s t leaf covers before now p only old l x there among can =
     let shut : IsShut s l = sym (ap (λ (r : Row). r.phase) (p.rows l)) ∙ there in
@@ -97,7 +111,8 @@ filed_or_late (At chunk slot) h k = h chunk slot refl
 filed_or_late (Late seen) h k = k refl
 
 -- ---- what is known stands in the chains
-pub in_chains : (s : Store) (knows : ℕ → ℕ → ℕ → Type 0) (shown : ℕ → ℕ → ℕ → Option ℕ → Type 0) (l x : ℕ) → ((c : ℕ) → knows l c x → (k : ℕ) × shown l c k (Some x))
+pub in_chains : (s : Store) (knows : ℕ → ℕ → ℕ → Type 0) (shown : ℕ → ℕ → ℕ → Option ℕ → Type 0) (l x : ℕ)
+    → ((c : ℕ) → knows l c x → (k : ℕ) × shown l c k (Some x))
     → ((c k : ℕ) → shown l c k (Some x) → Contains (chunks_of (row s l)) c) → IsKnownIn knows l x → StandsIn s knows l x
 in_chains s knows shown l x slot chunk known =
     let there = slot known.0 known.1 in

@@ -23,12 +23,15 @@ grown_other list n l ne = ap (λ b. cond b n 0) (not_here list l (λ e. ne (sym 
 
 grown_more : (list n m l : ℕ) → one_grown list n l + one_grown list m l ≡ one_grown list (n + m) l
 grown_more list n m l = elim (cases_eq l list) [
-  | inl same ↦ subst (λ k. one_grown list n k + one_grown list m k ≡ one_grown list (n + m) k) (sym same) (omega (arith, grown_here list n, grown_here list m, grown_here list (n + m)))
+  | inl same ↦
+      subst (λ k. one_grown list n k + one_grown list m k ≡ one_grown list (n + m) k) (sym same)
+      (omega (arith, grown_here list n, grown_here list m, grown_here list (n + m)))
   | inr other ↦ omega (arith, grown_other list n l other, grown_other list m l other, grown_other list (n + m) l other)
 ]
 
 -- ---- one after the other
-pub linked_same : (s t : Store) (grown grown' : ℕ → ℕ) (all all' : ℕ) → ((l : ℕ) → grown l ≡ grown' l) → all ≡ all' → AreLinked s t grown all → AreLinked s t grown' all'
+pub linked_same : (s t : Store) (grown grown' : ℕ → ℕ) (all all' : ℕ) → ((l : ℕ) → grown l ≡ grown' l) → all ≡ all' → AreLinked s t grown all
+    → AreLinked s t grown' all'
 linked_same s t grown grown' all all' e f h = record {
   rest = h.rest;
   free = ap (λ n. t.free + n) (sym f) ∙ h.free;
@@ -48,16 +51,19 @@ linked_none s grown none = record {
   held = refl;
 }
 
-pub linked_more : (s t u : Store) (one two both : ℕ → ℕ) (n m all : ℕ) → AreLinked s t one n → AreLinked t u two m → ((l : ℕ) → one l + two l ≡ both l) → n + m ≡ all → AreLinked s u both all
+pub linked_more : (s t u : Store) (one two both : ℕ → ℕ) (n m all : ℕ) → AreLinked s t one n → AreLinked t u two m → ((l : ℕ) → one l + two l ≡ both l)
+    → n + m ≡ all → AreLinked s u both all
 linked_more s t u one two both n m all h k e f = record {
   rest = k.rest ∙ ap (λ (v : Store). record v { rows = u.rows; free = u.free }) h.rest;
   free = omega (arith, f, h.free, k.free);
   rows = λ l. k.rows l ∙ ap (λ (r : Row). record r { claimed = (row u l).claimed; claimed_room = (row u l).claimed_room }) (h.rows l);
   longer = λ l.
       let first = h.longer l in
-      let next = k.longer l in
-      (first.0 ++ next.0, next.1 ∙ ap (λ (c : List ℕ). c ++ next.0) first.1 ∙ append_assoc (row s l).claimed first.0 next.0,
-      length-append first.0 next.0 ∙ ap (λ i. i + length next.0) first.2 ∙ ap (λ i. one l + i) next.2 ∙ e l);
+      let next = k.longer l in (
+        first.0 ++ next.0,
+        next.1 ∙ ap (λ (c : List ℕ). c ++ next.0) first.1 ∙ append_assoc (row s l).claimed first.0 next.0,
+        length-append first.0 next.0 ∙ ap (λ i. i + length next.0) first.2 ∙ ap (λ i. one l + i) next.2 ∙ e l,
+      );
   room = λ l. omega (arith, e l, h.room l, k.room l);
   held = k.held ∙ h.held;
 }
@@ -72,7 +78,8 @@ not_grown s t grown all l h none =
     ap length more.1 ∙ length-append (row s l).claimed more.0 ∙ ap (λ n. length (row s l).claimed + n) (more.2 ∙ none) ∙ plus_none (length (row s l).claimed)
 
 -- one chunk was linked
-pub linked_one : (s : Store) (list c : ℕ) → IsOpen s list → 0 < (row s list).claimed_room → 0 < s.free → AreLinked s (with_chunk s list (linked (row s list) c)) (one_grown list 1) 1
+pub linked_one : (s : Store) (list c : ℕ) → IsOpen s list → 0 < (row s list).claimed_room → 0 < s.free
+    → AreLinked s (with_chunk s list (linked (row s list) c)) (one_grown list 1) 1
 linked_one s list c o room free =
     let t : Store = with_chunk s list (linked (row s list) c) in
     let here : row t list ≡ linked (row s list) c = row-with_row s list (linked (row s list) c) (open_row s list o) in
@@ -84,7 +91,8 @@ linked_one s list c o room free =
       free = omega arith;
       rows = λ l. elim (cases_eq l list) [
         | inl same ↦ at l same ∙ (λ i. record (row s l) { claimed = (sym (at l same) i).claimed; claimed_room = (sym (at l same) i).claimed_room })
-        | inr other ↦ there l other ∙ (λ i. record (row s l) { claimed = (sym (there l other) i).claimed; claimed_room = (sym (there l other) i).claimed_room })
+        | inr other ↦
+            there l other ∙ (λ i. record (row s l) { claimed = (sym (there l other) i).claimed; claimed_room = (sym (there l other) i).claimed_room })
       ];
       longer = λ l. elim (cases_eq l list) [
         | inl same ↦ (c ∷ [], ap (λ (r : Row). r.claimed) (at l same), sym (one l same))
@@ -99,7 +107,8 @@ linked_one s list c o room free =
       held = open_holds s list (linked (row s list) c) o o;
     }
 
-pub linked_again : (s t u : Store) (list n : ℕ) → AreLinked s t (one_grown list n) n → AreLinked t u (one_grown list 1) 1 → AreLinked s u (one_grown list (n + 1)) (n + 1)
+pub linked_again : (s t u : Store) (list n : ℕ) → AreLinked s t (one_grown list n) n → AreLinked t u (one_grown list 1) 1
+    → AreLinked s u (one_grown list (n + 1)) (n + 1)
 linked_again s t u list n h k = linked_more s t u (one_grown list n) (one_grown list 1) (one_grown list (n + 1)) n 1 (n + 1) h k (grown_more list n 1) refl
 
 pub linked_zero : (s : Store) (list : ℕ) → AreLinked s s (one_grown list 0) 0
@@ -114,7 +123,9 @@ module _ (s : Store) (grants : List Grant) (i : ℕ) (d : Grant) (low : i < leng
   this = get_or grants i d
 
   sum_one : (f : Grant → ℕ) → sum_by f (take (i + 1) grants) ≡ sum_by f (take i grants) + f this
-  sum_one f = ap (sum_by f) (take_more grants i d low) ∙ sum_by-append f (take i grants) (this ∷ []) ∙ ap (λ n. sum_by f (take i grants) + n) (sum_by-cons f this [] ∙ plus_none (f this))
+  sum_one f =
+      ap (sum_by f) (take_more grants i d low) ∙ sum_by-append f (take i grants) (this ∷ [])
+      ∙ ap (λ n. sum_by f (take i grants) + n) (sum_by-cons f this [] ∙ plus_none (f this))
 
   pub lacking_more : (l : ℕ) → lacking_in s (take i grants) l + one_grown this.list (lacking s this) l ≡ lacking_in s (take (i + 1) grants) l
   lacking_more l = sym (sum_one (λ g. one_grown g.list (lacking s g) l))
@@ -166,9 +177,11 @@ slots_after s t grants k d all h low =
     let more = h.longer a.list in
     let long : length (row t a.list).claimed ≡ length (row s a.list).claimed + lacking_in s grants a.list =
     ap length more.1 ∙ length-append (row s a.list).claimed more.0 ∙ ap (λ n. length (row s a.list).claimed + n) more.2 in
-    let own : lacking_in s (take k grants) a.list + one_grown a.list (lacking s a) a.list ≡ lacking_in s (take (k + 1) grants) a.list = lacking_more s grants k d low a.list in
+    let own : lacking_in s (take k grants) a.list + one_grown a.list (lacking s a) a.list ≡ lacking_in s (take (k + 1) grants) a.list =
+    lacking_more s grants k d low a.list in
     let part : lacking_in s (take (k + 1) grants) a.list ≤ lacking_in s grants a.list = sum_by-take-le f grants (k + 1) in
     let some : lacking s a ≤ lacking_in s grants a.list = omega (arith, own, part, grown_here a.list (lacking s a)) in
     let granted : (row t a.list).granted ≡ (row s a.list).granted = ap (λ (r : Row). r.granted) (h.rows a.list) in
     subst (λ n. n + a.n ≤ 256 * length (row t a.list).claimed) (sym granted)
-    (subst (λ n. (row s a.list).granted + a.n ≤ 256 * n) (sym long) (enough ((row s a.list).granted + a.n) (length (row s a.list).claimed) (lacking_in s grants a.list) some))
+    (subst (λ n. (row s a.list).granted + a.n ≤ 256 * n) (sym long)
+    (enough ((row s a.list).granted + a.n) (length (row s a.list).claimed) (lacking_in s grants a.list) some))

@@ -59,8 +59,11 @@ module _ (s : Store) (knows : ℕ → ℕ → ℕ → Type 0) (guest : ℕ → �
           both (yes x (length longer) (omega (arith, long))) (ap (λ k. k == l) (get_or_append_left homes (none ∷ []) 0 x before))
           ∙ sym (ap (λ b. b && get_or homes x 0 == l) (yes x (length homes) before))
       | inr after ↦ elim (cases_lt x (length longer)) [
-        | inl low ↦ both (yes x (length longer) low) (ap (λ k. k == l) (last x after low) ∙ not_here none l (apart l o)) ∙ sym (ap (λ b. b && get_or homes x 0 == l) (no x (length homes) after))
-        | inr high ↦ ap (λ b. b && get_or longer x 0 == l) (no x (length longer) high) ∙ sym (ap (λ b. b && get_or homes x 0 == l) (no x (length homes) after))
+        | inl low ↦
+            both (yes x (length longer) low) (ap (λ k. k == l) (last x after low) ∙ not_here none l (apart l o))
+            ∙ sym (ap (λ b. b && get_or homes x 0 == l) (no x (length homes) after))
+        | inr high ↦
+            ap (λ b. b && get_or longer x 0 == l) (no x (length longer) high) ∙ sym (ap (λ b. b && get_or homes x 0 == l) (no x (length homes) after))
       ]
     ]
       where
@@ -88,7 +91,8 @@ module _ (s : Store) (knows : ℕ → ℕ → ℕ → Type 0) (guest : ℕ → �
       counted = λ l o. h.counted l o ∙ sym (count_still l o);
       guests = λ l x o low e. let old = old_home l x o low e in h.guests l x o old.0 old.1;
       room = λ l o.
-          let more : guest_count guest (suc (length homes)) l ≡ guest_count guest (length homes) l = same_count (guest l) 0 (length homes) (none_there_at l o) in
+          let more : guest_count guest (suc (length homes)) l ≡ guest_count guest (length homes) l =
+          same_count (guest l) 0 (length homes) (none_there_at l o) in
           let is : length longer ≡ suc (length homes) = omega (arith, long) in
           let same : guest_count guest (length longer) l ≡ guest_count guest (length homes) l = ap (λ n. guest_count guest n l) is ∙ more in
           omega (arith, same, h.room l o);
@@ -100,9 +104,11 @@ module _ (s : Store) (knows : ℕ → ℕ → ℕ → Type 0) (guest : ℕ → �
             front : (n : ℕ) → 0 + n ≡ n
             front n = omega arith
 
-  pub homed_new : (homes : List ℕ) (n : ℕ) → AreHomed s knows guest homes → ((l x : ℕ) → IsOpen s l → length homes ≤ x → guest l x ≡ false) → AreHomed s knows guest (homes ++ replicate n none)
+  pub homed_new : (homes : List ℕ) (n : ℕ) → AreHomed s knows guest homes → ((l x : ℕ) → IsOpen s l → length homes ≤ x → guest l x ≡ false)
+      → AreHomed s knows guest (homes ++ replicate n none)
   homed_new homes zero h new = subst (AreHomed s knows guest) (sym (append-nil homes)) h
   homed_new homes (suc n) h new =
       let rest : AreHomed s knows guest (longer homes ++ replicate n none) =
-      homed_new (longer homes) n (homed_one homes h (λ l o. new l (length homes) o (omega arith))) (λ l x o low. new l x o (omega (arith, low, long homes))) in
+      homed_new (longer homes) n (homed_one homes h (λ l o. new l (length homes) o (omega arith)))
+      (λ l x o low. new l x o (omega (arith, low, long homes))) in
       subst (AreHomed s knows guest) (append_assoc homes (none ∷ []) (replicate n none)) rest

@@ -31,7 +31,8 @@ opened_none s list low fresh =
 pub opened_open : (s t : Store) (list n : ℕ) → IsOpened s t list n → IsOpen t list
 opened_open s t list n h = ap (λ (r : Row). r.phase) h.here
 
-pub opened_more : (s t : Store) (list n c : ℕ) → IsOpened s t list n → 0 < (row t list).owned_room → 0 < t.free → IsOpened s (with_chunk t list (lengthened (row t list) c)) list (n + 1)
+pub opened_more : (s t : Store) (list n c : ℕ) → IsOpened s t list n → 0 < (row t list).owned_room → 0 < t.free
+    → IsOpened s (with_chunk t list (lengthened (row t list) c)) list (n + 1)
 opened_more s t list n c h room free =
     let new : Row = lengthened (row t list) c in
     let u : Store = with_chunk t list new in
@@ -55,7 +56,8 @@ not_here h l ne = grind arith
 none_counted : (homes : List ℕ) (l : ℕ) → ((x : ℕ) → x < length homes → get_or homes x 0 ≢ l) → home_count homes l ≡ 0
 none_counted [] l none = refl
 none_counted (h ∷ homes) l none =
-    sum_by-cons (λ k. cond (k == l) 1 0) h homes ∙ (λ i. cond (not_here h l (none 0 (omega arith)) i) 1 0 + none_counted homes l (λ x low. none (suc x) (omega arith)) i)
+    sum_by-cons (λ k. cond (k == l) 1 0) h homes
+    ∙ (λ i. cond (not_here h l (none 0 (omega arith)) i) 1 0 + none_counted homes l (λ x low. none (suc x) (omega arith)) i)
 
 nobody_home : (homes : List ℕ) (l x : ℕ) → ((y : ℕ) → y < length homes → get_or homes y 0 ≢ l) → is_home homes l x ≡ false
 nobody_home homes l x none = elim (cases_lt x (length homes)) [
@@ -70,7 +72,8 @@ nobody_home homes l x none = elim (cases_lt x (length homes)) [
     past : (a b : ℕ) → b ≤ a → nat_lt a b ≡ false
     past a b h = grind arith
 
-pub homed_opened : (s t : Store) (knows knows' : ℕ → ℕ → ℕ → Type 0) (guest : ℕ → ℕ → Bool) (homes : List ℕ) (list n : ℕ) → IsOpened s t list n → AreHomed s knows guest homes → Keeps knows knows'
+pub homed_opened : (s t : Store) (knows knows' : ℕ → ℕ → ℕ → Type 0) (guest : ℕ → ℕ → Bool) (homes : List ℕ) (list n : ℕ) → IsOpened s t list n
+    → AreHomed s knows guest homes → Keeps knows knows'
     → ((x : ℕ) → x < length homes → get_or homes x 0 ≢ list) → guest_count guest (length homes) list ≤ 256 * n → AreHomed t knows' guest homes
 homed_opened s t knows knows' guest homes list n o h keeps none few =
     let was : (l : ℕ) → l ≢ list → IsOpen t l → IsOpen s l = λ l ne there. sym (ap (λ (r : Row). r.phase) (o.others l ne)) ∙ there in
@@ -84,7 +87,9 @@ homed_opened s t knows knows' guest homes list n o h keeps none few =
         | inr other ↦ ap (λ (r : Row). count_by (λ y. y == x) r.placed) (o.others l other) ∙ h.once l x (was l other there)
       ];
       counted = λ l there. elim (cases_eq l list) [
-        | inl same ↦ ap (λ k. length (row t k).placed) same ∙ ap (λ (r : Row). length r.placed) o.here ∙ sym (none_counted homes list none) ∙ ap (home_count homes) (sym same)
+        | inl same ↦
+            ap (λ k. length (row t k).placed) same ∙ ap (λ (r : Row). length r.placed) o.here ∙ sym (none_counted homes list none)
+            ∙ ap (home_count homes) (sym same)
         | inr other ↦ ap (λ (r : Row). length r.placed) (o.others l other) ∙ h.counted l (was l other there)
       ];
       guests = λ l x there low e. h.guests l x (was l (apart l x low e) there) low e;

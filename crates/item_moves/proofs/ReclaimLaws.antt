@@ -30,7 +30,8 @@ module _ (s t : Store) (r : IsReclaimed s t) (shut : (l : ℕ) → Contains s.or
     room = λ l o. omega (arith, h.room l (was l o), ap (λ (q : Row). length q.owned) (same_row l o));
   }
 
-  pub settled_reclaimed : (leaf : ℕ → ℕ) (covers : ℕ → ℕ → Bool) (homes left : List ℕ) → AreSettled s leaf covers homes left → AreSettled t leaf covers homes left
+  pub settled_reclaimed : (leaf : ℕ → ℕ) (covers : ℕ → ℕ → Bool) (homes left : List ℕ) → AreSettled s leaf covers homes left
+      → AreSettled t leaf covers homes left
   unfolding AreSettled
   settled_reclaimed leaf covers homes left old l x there among can = elim (reclaimed_each s t r l) [
     | inl same ↦ old l x (sym (same_phase l) ∙ there) (subst (λ (q : Row). Contains (found_in q) x) same among) can

@@ -40,7 +40,8 @@ module _ (s t : Store) (same : HasSameItems s t) where
   was : (l : ℕ) → IsOpen t l → IsOpen s l
   was l o = sym (same.phase l) ∙ o
 
-  pub homed_stays : (knows knows' : ℕ → ℕ → ℕ → Type 0) (guest : ℕ → ℕ → Bool) (homes : List ℕ) → AreHomed s knows guest homes → Keeps knows knows' → AreHomed t knows' guest homes
+  pub homed_stays : (knows knows' : ℕ → ℕ → ℕ → Type 0) (guest : ℕ → ℕ → Bool) (homes : List ℕ) → AreHomed s knows guest homes → Keeps knows knows'
+      → AreHomed t knows' guest homes
   homed_stays knows knows' guest homes h keeps = record {
     known = λ l x o low e. still_known knows knows' l x keeps (h.known l x (was l o) low e);
     once = λ l x o. ap (λ (xs : List ℕ). count_by (λ y. y == x) xs) (same.placed l) ∙ h.once l x (was l o);

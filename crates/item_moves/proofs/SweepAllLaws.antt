@@ -106,8 +106,10 @@ module _ (s t : Store) (done : List ℕ) (w : AreSwept s t done) where
 
 -- ---- what is left
 -- where items belong stays so while lists are swept
-pub aimed_still : (s t : Store) (leaf : ℕ → ℕ) (covers guest : ℕ → ℕ → Bool) (before now splits done : List ℕ) → AreAimed s leaf covers guest before splits → AreSwept s t done
-    → ((l : ℕ) → Contains splits l → IsOpen s l) → ((l : ℕ) → Contains done l → Contains splits l) → OnlyHome leaf before now → AreAimed t leaf covers guest now splits
+pub aimed_still : (s t : Store) (leaf : ℕ → ℕ) (covers guest : ℕ → ℕ → Bool) (before now splits done : List ℕ) → AreAimed s leaf covers guest before splits
+    → AreSwept s t done
+    → ((l : ℕ) → Contains splits l → IsOpen s l) →
+    ((l : ℕ) → Contains done l → Contains splits l) → OnlyHome leaf before now → AreAimed t leaf covers guest now splits
 aimed_still s t leaf covers guest before now splits done a w takes within only =
     let was : (x : ℕ) → x < length now → x < length before = λ x low. subst (λ n. x < n) only.many low in
     record {
@@ -127,7 +129,8 @@ aimed_still s t leaf covers guest before now splits done a w takes within only =
     }
 
 -- once all are swept, none is left
-pub aimed_all : (t : Store) (leaf : ℕ → ℕ) (covers guest : ℕ → ℕ → Bool) (homes splits : List ℕ) → AreAimed t leaf covers guest homes splits → ((l : ℕ) → Contains splits l → IsShut t l) → AreAimed t leaf covers guest homes []
+pub aimed_all : (t : Store) (leaf : ℕ → ℕ) (covers guest : ℕ → ℕ → Bool) (homes splits : List ℕ) → AreAimed t leaf covers guest homes splits
+    → ((l : ℕ) → Contains splits l → IsShut t l) → AreAimed t leaf covers guest homes []
 aimed_all t leaf covers guest homes splits a shut = record {
   open_leaf = a.open_leaf;
   apart = λ x low c. no_one (leaf x) c;
@@ -145,7 +148,8 @@ aimed_all t leaf covers guest homes splits a shut = record {
 }
 
 -- while items are placed, where items belong stays so
-pub aimed_placed : (s t : Store) (leaf : ℕ → ℕ) (covers guest : ℕ → ℕ → Bool) (before now splits : List ℕ) → AreAimed s leaf covers guest before splits → OnlyPlaced s t → OnlyHome leaf before now → AreAimed t leaf covers guest now splits
+pub aimed_placed : (s t : Store) (leaf : ℕ → ℕ) (covers guest : ℕ → ℕ → Bool) (before now splits : List ℕ) → AreAimed s leaf covers guest before splits
+    → OnlyPlaced s t → OnlyHome leaf before now → AreAimed t leaf covers guest now splits
 aimed_placed s t leaf covers guest before now splits a p only =
     let was : (x : ℕ) → x < length now → x < length before = λ x low. subst (λ n. x < n) only.many low in
     record {

@@ -50,7 +50,8 @@ module _ (s : Store) (from : ℕ) (marked : List (Option ℕ)) (o : IsOpen s fro
   pub open_still : (l : ℕ) → l ≢ from → IsOpen s l → IsOpen shut l
   open_still l ne there = ap (λ (r : Row). r.phase) (shut_row_other l ne) ∙ there
 
-  pub homed_shut : (knows knows' : ℕ → ℕ → ℕ → Type 0) (guest : ℕ → ℕ → Bool) (homes : List ℕ) → AreHomed s knows guest homes → Keeps knows knows' → AreHomed shut knows' guest homes
+  pub homed_shut : (knows knows' : ℕ → ℕ → ℕ → Type 0) (guest : ℕ → ℕ → Bool) (homes : List ℕ) → AreHomed s knows guest homes → Keeps knows knows'
+      → AreHomed shut knows' guest homes
   homed_shut knows knows' guest homes h keeps = record {
     known = λ l x there low e. still_known knows knows' l x keeps (h.known l x (was l there) low e);
     once = λ l x there. ap (λ (r : Row). count r.placed x) (shut_row_other l (open_apart l there)) ∙ h.once l x (was l there);
@@ -62,9 +63,11 @@ module _ (s : Store) (from : ℕ) (marked : List (Option ℕ)) (o : IsOpen s fro
       count : List ℕ → ℕ → ℕ
       count xs x = count_by (λ y. y == x) xs
 
-  module _ (leaf : ℕ → ℕ) (covers guest : ℕ → ℕ → Bool) (homes splits : List ℕ) (a : AreAimed s leaf covers guest homes splits) (among : Contains splits from) where
+  module _ (leaf : ℕ → ℕ) (covers guest : ℕ → ℕ → Bool) (homes splits : List ℕ) (a : AreAimed s leaf covers guest homes splits)
+      (among : Contains splits from) where
     pub leaf_open : (x : ℕ) → IsTrue (covers from x) → IsOpen shut (leaf x)
-    leaf_open x can = open_still (leaf x) (λ same. a.apart x (a.admitted from x can) (subst (Contains splits) (sym same) among)) (a.open_leaf x (a.admitted from x can))
+    leaf_open x can =
+        open_still (leaf x) (λ same. a.apart x (a.admitted from x can) (subst (Contains splits) (sym same) among)) (a.open_leaf x (a.admitted from x can))
 
     pub alone_shut : (x : ℕ) → IsTrue (covers from x) → IsAlone shut homes x (leaf x)
     alone_shut x can l there e = elim (a.home l x (a.admitted from x can) (was l there) e) [
@@ -91,7 +94,8 @@ module _ (s : Store) (from : ℕ) (marked : List (Option ℕ)) (o : IsOpen s fro
         }
 
 -- ---- what is housed and what is kept, once one more list was swept
-module _ (s t : Store) (knows : ℕ → ℕ → ℕ → Type 0) (leaf : ℕ → ℕ) (covers guest : ℕ → ℕ → Bool) (before now : List ℕ) (from : ℕ) (rest : List ℕ) (o : IsOpen s from)
+module _ (s t : Store) (knows : ℕ → ℕ → ℕ → Type 0) (leaf : ℕ → ℕ) (covers guest : ℕ → ℕ → Bool) (before now : List ℕ) (from : ℕ) (rest : List ℕ)
+    (o : IsOpen s from)
     (moved : (x : ℕ) → IsKnownIn knows from x → IsTrue (covers from x) → get_or now x 0 ≡ leaf x) where
   was_row : AreSwept s t (from ∷ []) → (l : ℕ) → l ≢ from → IsShut t l → row t l ≡ row s l
   was_row w l ne there =
@@ -99,7 +103,8 @@ module _ (s t : Store) (knows : ℕ → ℕ → ℕ → Type 0) (leaf : ℕ → 
       let shut : IsShut s l = sym (ap (λ (r : Row). r.phase) (w.rows l apart)) ∙ there in
       w.others l apart (λ oo. not_both (sym shut ∙ oo))
 
-  pub settled_more : AreHomed s knows guest before → ((x : ℕ) → IsTrue (covers from x) → x < length before) → OnlyHome leaf before now → AreSwept s t (from ∷ [])
+  pub settled_more : AreHomed s knows guest before → ((x : ℕ) → IsTrue (covers from x) → x < length before) → OnlyHome leaf before now
+      → AreSwept s t (from ∷ [])
       → ((x : ℕ) → Contains (found_in (row t from)) x → IsTrue (covers from x) → get_or now x 0 ≡ leaf x)
       → AreSettled s leaf covers before (from ∷ rest) → AreSettled t leaf covers now rest
   unfolding AreSettled
@@ -124,7 +129,8 @@ module _ (s t : Store) (knows : ℕ → ℕ → ℕ → Type 0) (leaf : ℕ → 
             ]
       ]
 
-  pub kept_more : (knows' : ℕ → ℕ → ℕ → Type 0) → AreHomed t knows' guest now → ((x : ℕ) → IsTrue (covers from x) → IsOpen t (leaf x)) → ((x : ℕ) → IsTrue (covers from x) → x < length now)
+  pub kept_more : (knows' : ℕ → ℕ → ℕ → Type 0) → AreHomed t knows' guest now → ((x : ℕ) → IsTrue (covers from x) → IsOpen t (leaf x))
+      → ((x : ℕ) → IsTrue (covers from x) → x < length now)
       → Keeps knows knows' → (x : ℕ) → IsKept knows leaf covers (from ∷ rest) x → IsKept knows' leaf covers rest x
   kept_more knows' h open_leaf admitted keeps x old =
       elim old [

@@ -104,8 +104,10 @@ pub fn bring_home<L: LeafLists, A: Aims>(
     ensures home { OnlyHome (A.leaf aims.now) homes.old homes.new }
     ensures store { (t : Store) × AreSwept (L.store lists.old) t splits.now × (L.store lists.new ≡ one_less t (L.Filer.filing filer).birth) }
     ensures settled { AreSettled (L.store lists.new) (A.leaf aims.now) (A.covers aims.now) homes.new [] }
-    ensures kept { (x : ℕ) → IsKept (L.knows lists.old) (A.leaf aims.now) (A.covers aims.now) splits.now x → StandsIn (L.store lists.new) (L.knows lists.new) (A.leaf aims.now x) x }
-    ensures filed { (a : Answer) → Contains (L.Filer.filing filer).answers a → StandsIn (L.store lists.new) (L.knows lists.new) (A.leaf aims.now a.item) a.item }
+    ensures kept { (x : ℕ) → IsKept (L.knows lists.old) (A.leaf aims.now) (A.covers aims.now) splits.now x
+        → StandsIn (L.store lists.new) (L.knows lists.new) (A.leaf aims.now x) x }
+    ensures filed { (a : Answer) → Contains (L.Filer.filing filer).answers a
+        → StandsIn (L.store lists.new) (L.knows lists.new) (A.leaf aims.now a.item) a.item }
     ensures capacity { vec_capacity found.old ≤ vec_capacity found.new }
     ensures known { Keeps (L.knows lists.old) (L.knows lists.new) }
 {

@@ -4,7 +4,7 @@ ghost use Rattle.list_words.specs.Store.{IsOpen};
 ghost use Rattle.item_moves.specs.Homes.{AreHomed};
 
 use crate::aims::Aims;
-use list_words::{push_within, LeafLists};
+use list_words::{LeafLists, push_within};
 
 /// What stands for the home of an item that has none: no list has this number.
 pub const NO_HOME: u32 = u32::MAX;

@@ -17,5 +17,6 @@ pub fn items_stay_in_their_lists()
 
 /// A law: where the items of lists stay the same, what is settled stays so.
 pub fn settled_items_stay_settled()
-    ensures { (s t : Store) (leaf : ℕ → ℕ) (covers : ℕ → ℕ → Bool) (homes left : List ℕ) → HasSameItems s t → AreSettled s leaf covers homes left → AreSettled t leaf covers homes left }
+    ensures { (s t : Store) (leaf : ℕ → ℕ) (covers : ℕ → ℕ → Bool) (homes left : List ℕ) → HasSameItems s t → AreSettled s leaf covers homes left
+        → AreSettled t leaf covers homes left }
 {}

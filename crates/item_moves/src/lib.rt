@@ -14,7 +14,7 @@ mod sweeping;
 
 pub use aims::Aims;
 pub use coming_back::{are_fair, bring_home, place_answer, place_late};
-pub use homeless::{add_items, NO_HOME};
+pub use homeless::{NO_HOME, add_items};
 pub use laws::{items_stay_in_their_lists, settled_items_stay_settled};
 pub use linking::{admit_slots, link_chunks, link_for_grants};
 pub use opening::open_leaf;

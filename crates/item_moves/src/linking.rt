@@ -31,7 +31,8 @@ fn link_for_grant<L: LeafLists>(lists: &mut L, granted: u32, grant: &Grant)
     requires granted { granted ≡ (row (L.store lists.old) grant.now.list).granted }
     requires room { lacking (L.store lists.old) grant.now ≤ (row (L.store lists.old) grant.now.list).claimed_room }
     requires free { lacking (L.store lists.old) grant.now ≤ (L.store lists.old).free }
-    ensures linked { AreLinked (L.store lists.old) (L.store lists.new) (one_grown grant.now.list (lacking (L.store lists.old) grant.now)) (lacking (L.store lists.old) grant.now) }
+    ensures linked { AreLinked (L.store lists.old) (L.store lists.new) (one_grown grant.now.list (lacking (L.store lists.old) grant.now))
+        (lacking (L.store lists.old) grant.now) }
     ensures known { Keeps (L.knows lists.old) (L.knows lists.new) }
     ensures borne { (f : L.Filer) → L.borne_out lists.old f → L.borne_out lists.new f }
 {
@@ -45,13 +46,18 @@ fn link_for_grant<L: LeafLists>(lists: &mut L, granted: u32, grant: &Grant)
 pub fn link_for_grants<L: LeafLists>(lists: &mut L, granted: &[u32], grants: &[Grant])
     requires apart { AllPairs (λ (a b : Grant). a.list ≢ b.list) grants.now }
     requires takes { (a : Grant) → Contains grants.now a → IsOpen (L.store lists.old) a.list }
-    requires granted { (a : Grant) → Contains grants.now a → (a.list < length granted.now) × (slice_index granted.now a.list ≡ (row (L.store lists.old) a.list).granted) }
+    requires granted { (a : Grant) → Contains grants.now a → (a.list < length granted.now)
+        × (slice_index granted.now a.list ≡ (row (L.store lists.old) a.list).granted) }
     requires room { (a : Grant) → Contains grants.now a → lacking (L.store lists.old) a ≤ (row (L.store lists.old) a.list).claimed_room }
     requires free { lacking_in_all (L.store lists.old) grants.now ≤ (L.store lists.old).free }
-    ensures linked { AreLinked (L.store lists.old) (L.store lists.new) (lacking_in (L.store lists.old) grants.now) (lacking_in_all (L.store lists.old) grants.now) }
-    ensures slots { (a : Grant) → Contains grants.now a → (row (L.store lists.new) a.list).granted + a.n ≤ 256 * length (row (L.store lists.new) a.list).claimed }
-    ensures homed { (guest : ℕ → ℕ → Bool) (homes : List ℕ) → AreHomed (L.store lists.old) (L.knows lists.old) guest homes → AreHomed (L.store lists.new) (L.knows lists.new) guest homes }
-    ensures settled { (leaf : ℕ → ℕ) (covers : ℕ → ℕ → Bool) (homes left : List ℕ) → AreSettled (L.store lists.old) leaf covers homes left → AreSettled (L.store lists.new) leaf covers homes left }
+    ensures linked { AreLinked (L.store lists.old) (L.store lists.new) (lacking_in (L.store lists.old) grants.now)
+        (lacking_in_all (L.store lists.old) grants.now) }
+    ensures slots { (a : Grant) → Contains grants.now a
+        → (row (L.store lists.new) a.list).granted + a.n ≤ 256 * length (row (L.store lists.new) a.list).claimed }
+    ensures homed { (guest : ℕ → ℕ → Bool) (homes : List ℕ) → AreHomed (L.store lists.old) (L.knows lists.old) guest homes
+        → AreHomed (L.store lists.new) (L.knows lists.new) guest homes }
+    ensures settled { (leaf : ℕ → ℕ) (covers : ℕ → ℕ → Bool) (homes left : List ℕ) → AreSettled (L.store lists.old) leaf covers homes left
+        → AreSettled (L.store lists.new) leaf covers homes left }
     ensures known { Keeps (L.knows lists.old) (L.knows lists.new) }
     ensures borne { (f : L.Filer) → L.borne_out lists.old f → L.borne_out lists.new f }
 {
@@ -64,17 +70,21 @@ pub fn link_for_grants<L: LeafLists>(lists: &mut L, granted: &[u32], grants: &[G
 pub fn admit_slots<L: LeafLists>(lists: &mut L, granted: &[u32], grants: &[Grant]) -> L::Filer
     requires apart { AllPairs (λ (a b : Grant). a.list ≢ b.list) grants.now }
     requires takes { (a : Grant) → Contains grants.now a → IsOpen (L.store lists.old) a.list }
-    requires granted { (a : Grant) → Contains grants.now a → (a.list < length granted.now) × (slice_index granted.now a.list ≡ (row (L.store lists.old) a.list).granted) }
+    requires granted { (a : Grant) → Contains grants.now a → (a.list < length granted.now)
+        × (slice_index granted.now a.list ≡ (row (L.store lists.old) a.list).granted) }
     requires room { (a : Grant) → Contains grants.now a → lacking (L.store lists.old) a ≤ (row (L.store lists.old) a.list).claimed_room }
     requires free { lacking_in_all (L.store lists.old) grants.now ≤ (L.store lists.old).free }
     requires filer { (length grants.now ≤ (L.store lists.old).grants_room) × (granted_in_all grants.now ≤ (L.store lists.old).items_room) }
     requires few { (L.store lists.old).given + granted_in_all grants.now < 2147483648 }
     requires seats { seats_out (L.store lists.old) < 18446744073709551615 }
-    ensures store { (t : Store) × AreLinked (L.store lists.old) t (lacking_in (L.store lists.old) grants.now) (lacking_in_all (L.store lists.old) grants.now) × (L.store lists.new ≡ admitted t grants.now) }
+    ensures store { (t : Store) × AreLinked (L.store lists.old) t (lacking_in (L.store lists.old) grants.now) (lacking_in_all (L.store lists.old) grants.now)
+        × (L.store lists.new ≡ admitted t grants.now) }
     ensures filer { L.Filer.filing result ≡ record { name = (L.store lists.old).name; birth = birth_now (L.store lists.old); left = grants.now; answers = [] } }
     ensures vouched { L.borne_out lists.new result }
-    ensures homed { (guest : ℕ → ℕ → Bool) (homes : List ℕ) → AreHomed (L.store lists.old) (L.knows lists.old) guest homes → AreHomed (L.store lists.new) (L.knows lists.new) guest homes }
-    ensures settled { (leaf : ℕ → ℕ) (covers : ℕ → ℕ → Bool) (homes left : List ℕ) → AreSettled (L.store lists.old) leaf covers homes left → AreSettled (L.store lists.new) leaf covers homes left }
+    ensures homed { (guest : ℕ → ℕ → Bool) (homes : List ℕ) → AreHomed (L.store lists.old) (L.knows lists.old) guest homes
+        → AreHomed (L.store lists.new) (L.knows lists.new) guest homes }
+    ensures settled { (leaf : ℕ → ℕ) (covers : ℕ → ℕ → Bool) (homes left : List ℕ) → AreSettled (L.store lists.old) leaf covers homes left
+        → AreSettled (L.store lists.new) leaf covers homes left }
     ensures known { Keeps (L.knows lists.old) (L.knows lists.new) }
     ensures borne { (f : L.Filer) → L.borne_out lists.old f → L.borne_out lists.new f }
 {

@@ -16,7 +16,8 @@ pub fn open_leaf<L: LeafLists, A: Aims>(lists: &mut L, aims: &A, list: u32, item
     requires room { chunks_for items ≤ (row (L.store lists.old) list).owned_room }
     requires free { chunks_for items ≤ (L.store lists.old).free }
     ensures opened { IsOpened (L.store lists.old) (L.store lists.new) list (chunks_for items) }
-    ensures homed { (homes : List ℕ) → AreHomed (L.store lists.old) (L.knows lists.old) (A.guest aims.now) homes → ((x : ℕ) → x < length homes → slice_index homes x ≢ list)
+    ensures homed { (homes : List ℕ) → AreHomed (L.store lists.old) (L.knows lists.old) (A.guest aims.now) homes
+        → ((x : ℕ) → x < length homes → slice_index homes x ≢ list)
         → guest_count (A.guest aims.now) (length homes) list ≤ items → AreHomed (L.store lists.new) (L.knows lists.new) (A.guest aims.now) homes }
     ensures known { Keeps (L.knows lists.old) (L.knows lists.new) }
     ensures borne { (f : L.Filer) → L.borne_out lists.old f → L.borne_out lists.new f }

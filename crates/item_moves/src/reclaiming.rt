@@ -14,7 +14,8 @@ pub fn give_back<L: LeafLists, A: Aims>(lists: &mut L, aims: &A, homes: &[u32])
     ensures store { IsReclaimed (L.store lists.old) (L.store lists.new) }
     ensures homed { AreHomed (L.store lists.new) (L.knows lists.new) (A.guest aims.now) homes.now }
     ensures shut { (l : ℕ) → Contains (L.store lists.new).order l → IsShut (L.store lists.new) l }
-    ensures settled { (left : List ℕ) → AreSettled (L.store lists.old) (A.leaf aims.now) (A.covers aims.now) homes.now left → AreSettled (L.store lists.new) (A.leaf aims.now) (A.covers aims.now) homes.now left }
+    ensures settled { (left : List ℕ) → AreSettled (L.store lists.old) (A.leaf aims.now) (A.covers aims.now) homes.now left
+        → AreSettled (L.store lists.new) (A.leaf aims.now) (A.covers aims.now) homes.now left }
     ensures open_rows { (l : ℕ) → IsOpen (L.store lists.old) l → row (L.store lists.new) l ≡ row (L.store lists.old) l }
     ensures known { (l c x : ℕ) → IsOpen (L.store lists.old) l → L.knows lists.old l c x → L.knows lists.new l c x }
 {

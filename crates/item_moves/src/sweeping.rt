@@ -19,12 +19,14 @@ pub fn sweep_list<L: LeafLists, A: Aims>(
 )
     requires homed { AreHomed (L.store lists.old) (L.knows lists.old) (A.guest aims.now) homes.old }
     requires takes { IsOpen (L.store lists.old) from }
-    requires aimed { (splits : List ℕ) × Contains splits from × AreAimed (L.store lists.old) (A.leaf aims.now) (A.covers aims.now) (A.guest aims.now) homes.old splits }
+    requires aimed { (splits : List ℕ) × Contains splits from
+        × AreAimed (L.store lists.old) (A.leaf aims.now) (A.covers aims.now) (A.guest aims.now) homes.old splits }
     requires room { 256 * length (chunks_of (row (L.store lists.old) from)) ≤ vec_capacity found.old }
     ensures homed { AreHomed (L.store lists.new) (L.knows lists.new) (A.guest aims.now) homes.new }
     ensures home { OnlyHome (A.leaf aims.now) homes.old homes.new }
     ensures swept { AreSwept (L.store lists.old) (L.store lists.new) (from ∷ []) }
-    ensures found { (x : ℕ) → Contains (found_in (row (L.store lists.new) from)) x → IsTrue (A.covers aims.now from x) → slice_index homes.new x ≡ A.leaf aims.now x }
+    ensures found { (x : ℕ) → Contains (found_in (row (L.store lists.new) from)) x → IsTrue (A.covers aims.now from x)
+        → slice_index homes.new x ≡ A.leaf aims.now x }
     ensures moved { (x : ℕ) → IsKnownIn (L.knows lists.old) from x → IsTrue (A.covers aims.now from x) → slice_index homes.new x ≡ A.leaf aims.now x }
     ensures capacity { vec_capacity found.old ≤ vec_capacity found.new }
     ensures known { Keeps (L.knows lists.old) (L.knows lists.new) }
@@ -52,8 +54,10 @@ pub fn sweep_all<L: LeafLists, A: Aims>(
     ensures homed { AreHomed (L.store lists.new) (L.knows lists.new) (A.guest aims.now) homes.new }
     ensures home { OnlyHome (A.leaf aims.now) homes.old homes.new }
     ensures swept { AreSwept (L.store lists.old) (L.store lists.new) splits.now }
-    ensures settled { AreSettled (L.store lists.old) (A.leaf aims.now) (A.covers aims.now) homes.old splits.now → AreSettled (L.store lists.new) (A.leaf aims.now) (A.covers aims.now) homes.new [] }
-    ensures kept { (x : ℕ) → IsKept (L.knows lists.old) (A.leaf aims.now) (A.covers aims.now) splits.now x → IsKnownIn (L.knows lists.new) (A.leaf aims.now x) x }
+    ensures settled { AreSettled (L.store lists.old) (A.leaf aims.now) (A.covers aims.now) homes.old splits.now
+        → AreSettled (L.store lists.new) (A.leaf aims.now) (A.covers aims.now) homes.new [] }
+    ensures kept { (x : ℕ) → IsKept (L.knows lists.old) (A.leaf aims.now) (A.covers aims.now) splits.now x
+        → IsKnownIn (L.knows lists.new) (A.leaf aims.now x) x }
     ensures capacity { vec_capacity found.old ≤ vec_capacity found.new }
     ensures known { Keeps (L.knows lists.old) (L.knows lists.new) }
     ensures borne { (f : L.Filer) → L.borne_out lists.old f → L.borne_out lists.new f }

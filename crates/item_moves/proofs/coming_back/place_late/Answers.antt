@@ -25,7 +25,9 @@ pub loop-answer-preserved : goal.loop-answer-preserved
 loop-answer-preserved g c =
     record {
       homed = c.place_answer.ensures.homed;
-      home = home_twice (g.A.Aims.leaf c.args.aims.now) c.args.homes.now c.loop-answer.homes c.place_answer.new.homes c.loop-answer.invariant.home c.place_answer.ensures.home;
+      home = home_twice
+          (g.A.Aims.leaf c.args.aims.now) c.args.homes.now c.loop-answer.homes c.place_answer.new.homes c.loop-answer.invariant.home
+          c.place_answer.ensures.home;
       back = back_more (g.A.Aims.leaf c.args.aims.now) c.loop-answer.homes c.place_answer.new.homes c.args.answers.now c.loop-answer.answer-index first_answer
           c.loop-answer.invariant.back c.place_answer.ensures.home c.loop-answer-test.true c.place_answer.ensures.back;
       placed = placed_more _ _ _ c.loop-answer.invariant.placed c.place_answer.ensures.placed;
@@ -35,5 +37,6 @@ loop-answer-preserved g c =
 
 pub place_answer-requires-clause-aimed : goal.place_answer-requires-clause-aimed
 place_answer-requires-clause-aimed g c =
-    aimed_placed (g.L.LeafLists.store c.args.lists.now) (g.L.LeafLists.store c.loop-answer.lists) (g.A.Aims.leaf c.args.aims.now) (g.A.Aims.covers c.args.aims.now) (g.A.Aims.guest c.args.aims.now)
+    aimed_placed (g.L.LeafLists.store c.args.lists.now) (g.L.LeafLists.store c.loop-answer.lists) (g.A.Aims.leaf c.args.aims.now)
+    (g.A.Aims.covers c.args.aims.now) (g.A.Aims.guest c.args.aims.now)
     c.args.homes.now c.loop-answer.homes _ c.requires.aimed c.loop-answer.invariant.placed c.loop-answer.invariant.home

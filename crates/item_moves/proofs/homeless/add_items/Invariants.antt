@@ -1,4 +1,4 @@
-use Rattle.std.proofs.Common.{◌≡◌, ◌≤◌, ◌+◌, ◌++◌, length, replicate}
+use Rattle.std.proofs.Common.{◌≡◌, ◌≤◌, ◌++◌, replicate}
 use Rattle.std.specs.Vec.{vec_capacity}
 use Rattle.item_moves.proofs.homeless.add_items.Given as goal
 

@@ -31,11 +31,13 @@ pub returns-clause-homed : goal.returns-clause-homed
 returns-clause-homed g c guest homes h =
     let t : Store = g.L.LeafLists.store c.link_for_grants.new.lists in
     subst (λ (v : Store). AreHomed v (g.L.LeafLists.knows c.admit.new.self) guest homes) (sym c.admit.ensures.store)
-    (homed_stays t (admitted t c.args.grants.now) (granted_items t c.args.grants.now) (g.L.LeafLists.knows c.link_for_grants.new.lists) (g.L.LeafLists.knows c.admit.new.self) guest homes
+    (homed_stays t (admitted t c.args.grants.now) (granted_items t c.args.grants.now) (g.L.LeafLists.knows c.link_for_grants.new.lists)
+    (g.L.LeafLists.knows c.admit.new.self) guest homes
     (c.link_for_grants.ensures.homed guest homes h) c.admit.ensures.known)
 
 pub returns-clause-settled : goal.returns-clause-settled
 returns-clause-settled g c leaf covers homes left h =
     let t : Store = g.L.LeafLists.store c.link_for_grants.new.lists in
     subst (λ (v : Store). AreSettled v leaf covers homes left) (sym c.admit.ensures.store)
-    (settled_stays t (admitted t c.args.grants.now) (granted_items t c.args.grants.now) leaf covers homes left (c.link_for_grants.ensures.settled leaf covers homes left h))
+    (settled_stays t (admitted t c.args.grants.now) (granted_items t c.args.grants.now) leaf covers homes left
+    (c.link_for_grants.ensures.settled leaf covers homes left h))

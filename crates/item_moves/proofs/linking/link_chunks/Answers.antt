@@ -11,7 +11,8 @@ pub extend_claimed-requires-clause-takes : goal.extend_claimed-requires-clause-t
 extend_claimed-requires-clause-takes g c = linked_open _ _ _ _ c.args.list c.loop-chunk.invariant.linked c.requires.takes
 
 pub extend_claimed-requires-clause-room : goal.extend_claimed-requires-clause-room
-extend_claimed-requires-clause-room g c = omega (arith, c.loop-chunk.invariant.linked.room c.args.list, grown_here c.args.list c.loop-chunk._chunk, c.requires.room)
+extend_claimed-requires-clause-room g c =
+    omega (arith, c.loop-chunk.invariant.linked.room c.args.list, grown_here c.args.list c.loop-chunk._chunk, c.requires.room)
 
 pub extend_claimed-requires-clause-free : goal.extend_claimed-requires-clause-free
 extend_claimed-requires-clause-free g c = omega (arith, c.loop-chunk.invariant.linked.free, c.requires.free)

@@ -32,10 +32,14 @@ sweep_list-requires-clause-takes g c =
 pub sweep_list-requires-clause-aimed : goal.sweep_list-requires-clause-aimed
 sweep_list-requires-clause-aimed g c =
     let splits : List ℕ = c.args.splits.now in
-    let i : ℕ = c.loop-from.from-index in
-    (splits, Contains-get_or splits i 0 c.loop-from-test.true,
-    aimed_still (g.L.LeafLists.store c.args.lists.now) (g.L.LeafLists.store c.loop-from.lists) (g.A.Aims.leaf c.args.aims.now) (g.A.Aims.covers c.args.aims.now) (g.A.Aims.guest c.args.aims.now)
-    c.args.homes.now c.loop-from.homes splits (take i splits) c.requires.aimed c.loop-from.invariant.swept c.requires.takes (in_take splits i) c.loop-from.invariant.home)
+    let i : ℕ = c.loop-from.from-index in (
+      splits,
+      Contains-get_or splits i 0 c.loop-from-test.true,
+      aimed_still (g.L.LeafLists.store c.args.lists.now) (g.L.LeafLists.store c.loop-from.lists) (g.A.Aims.leaf c.args.aims.now)
+          (g.A.Aims.covers c.args.aims.now) (g.A.Aims.guest c.args.aims.now)
+          c.args.homes.now c.loop-from.homes splits (take i splits) c.requires.aimed c.loop-from.invariant.swept c.requires.takes
+          (in_take splits i) c.loop-from.invariant.home,
+    )
 
 pub sweep_list-requires-clause-room : goal.sweep_list-requires-clause-room
 sweep_list-requires-clause-room g c =
@@ -44,7 +48,8 @@ sweep_list-requires-clause-room g c =
     let from : ℕ = get_or splits i 0 in
     let s : Store = g.L.LeafLists.store c.args.lists.now in
     let t : Store = g.L.LeafLists.store c.loop-from.lists in
-    let same : length (chunks_of (row t from)) ≡ length (chunks_of (row s from)) = ap length (same_chunks s t (take i splits) c.loop-from.invariant.swept from (not_before splits i c.requires.apart c.loop-from-test.true)) in
+    let same : length (chunks_of (row t from)) ≡ length (chunks_of (row s from)) =
+    ap length (same_chunks s t (take i splits) c.loop-from.invariant.swept from (not_before splits i c.requires.apart c.loop-from-test.true)) in
     omega (arith, c.requires.room from (Contains-get_or splits i 0 c.loop-from-test.true), c.loop-from.invariant.capacity, same)
 
 pub loop-from-preserved : goal.loop-from-preserved
@@ -65,13 +70,16 @@ loop-from-preserved g c =
     let among : Contains splits from = Contains-get_or splits i 0 c.loop-from-test.true in
     let o : IsOpen t from = swept_open s t (take i splits) c.loop-from.invariant.swept from new (c.requires.takes from among) in
     let a : AreAimed t leaf covers guest c.loop-from.homes splits =
-    aimed_still s t leaf covers guest c.args.homes.now c.loop-from.homes splits (take i splits) c.requires.aimed c.loop-from.invariant.swept c.requires.takes (in_take splits i) c.loop-from.invariant.home in
+    aimed_still s t leaf covers guest c.args.homes.now c.loop-from.homes splits (take i splits) c.requires.aimed c.loop-from.invariant.swept c.requires.takes
+    (in_take splits i) c.loop-from.invariant.home in
     record {
       homed = c.sweep_list.ensures.homed;
       home = home_twice leaf c.args.homes.now c.loop-from.homes c.sweep_list.new.homes c.loop-from.invariant.home c.sweep_list.ensures.home;
-      swept = subst (λ (l : List ℕ). AreSwept s u l) (sym done) (swept_more s t (take i splits) c.loop-from.invariant.swept u from c.sweep_list.ensures.swept new);
+      swept = subst (λ (l : List ℕ). AreSwept s u l) (sym done)
+          (swept_more s t (take i splits) c.loop-from.invariant.swept u from c.sweep_list.ensures.swept new);
       settled = λ first. settled_more t u (g.L.LeafLists.knows c.loop-from.lists) leaf covers guest c.loop-from.homes c.sweep_list.new.homes from rest o
-          c.sweep_list.ensures.moved c.loop-from.invariant.homed (a.admitted from) c.sweep_list.ensures.home c.sweep_list.ensures.swept c.sweep_list.ensures.found
+          c.sweep_list.ensures.moved c.loop-from.invariant.homed
+          (a.admitted from) c.sweep_list.ensures.home c.sweep_list.ensures.swept c.sweep_list.ensures.found
           (subst (AreSettled t leaf covers c.loop-from.homes) left (c.loop-from.invariant.settled first));
       kept = λ x first. kept_more t u (g.L.LeafLists.knows c.loop-from.lists) leaf covers guest c.loop-from.homes c.sweep_list.new.homes from rest o
           c.sweep_list.ensures.moved (g.L.LeafLists.knows c.sweep_list.new.lists) c.sweep_list.ensures.homed
@@ -90,5 +98,6 @@ returns-clause-kept g c x first =
     let leaf : ℕ → ℕ = g.A.Aims.leaf c.args.aims.now in
     let covers : ℕ → ℕ → Bool = g.A.Aims.covers c.args.aims.now in
     let none : IsKept (g.L.LeafLists.knows c.loop-from.lists) leaf covers [] x =
-    subst (λ (l : List ℕ). IsKept (g.L.LeafLists.knows c.loop-from.lists) leaf covers l x) (drop_all c.loop-from.from-index c.args.splits.now c.loop-from-test.false) (c.loop-from.invariant.kept x first) in
+    subst (λ (l : List ℕ). IsKept (g.L.LeafLists.knows c.loop-from.lists) leaf covers l x)
+    (drop_all c.loop-from.from-index c.args.splits.now c.loop-from-test.false) (c.loop-from.invariant.kept x first) in
     elim none [ inl stands ↦ stands | inr other ↦ absurd (no_one other.0 other.1) ]

@@ -1,0 +1,10 @@
+pub mod FoundLaws
+pub mod HomeLaws
+pub mod LateLaws
+pub mod LinkLaws
+pub mod NewLaws
+pub mod OpenLaws
+pub mod ReclaimLaws
+pub mod StayLaws
+pub mod SweepAllLaws
+pub mod SweepLaws

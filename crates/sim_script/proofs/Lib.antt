@@ -1,0 +1,4 @@
+pub mod Cuts
+pub mod NumberLaws
+pub mod WordLaws
+pub mod ScheduleLaws

@@ -1,0 +1,15 @@
+pub mod Answers
+pub mod Chunks
+pub mod Decisions
+pub mod FilingRules
+pub mod Filings
+pub mod Frames
+pub mod Jobs
+pub mod Publications
+pub mod Steps
+pub mod Stores
+pub mod Sweeps
+pub mod Versions
+pub mod Views
+pub mod Whereabouts
+pub mod Worlds

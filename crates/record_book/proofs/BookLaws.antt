@@ -65,12 +65,12 @@ rows_later n m rows e all = subst (λ (k : ℕ). All (IsRowOf k) rows) (sym e) (
 
 -- ---- what a record says where an event comes
 
-kept_same : (events : Record) (e : Event × ℕ) → ((n : ℕ) → kept_from n (e ∷ []) ≡ []) → kept_of (events ++ e ∷ []) ≡ kept_of events
+pub kept_same : (events : Record) (e : Event × ℕ) → ((n : ℕ) → kept_from n (e ∷ []) ≡ []) → kept_of (events ++ e ∷ []) ≡ kept_of events
 kept_same events e none =
     kept_from-append 0 events (e ∷ []) ∙ ap (λ (l : List KeptValue). kept_of events ++ l) (none (0 + length (points_in (kept_of events))))
         ∙ append-nil (kept_of events)
 
-kept_more : (events : Record) (b : KeptValue) → b.first ≡ length (points_in (kept_of events))
+pub kept_more : (events : Record) (b : KeptValue) → b.first ≡ length (points_in (kept_of events))
     → kept_of (events ++ (Admission b.input b.points, b.loader) ∷ []) ≡ kept_of events ++ b ∷ []
 kept_more events b e =
     kept_from-append 0 events ((Admission b.input b.points, b.loader) ∷ [])

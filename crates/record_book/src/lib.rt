@@ -11,5 +11,5 @@ mod within;
 
 pub use book::RecordBook;
 pub use kept_batch::KeptBatch;
-pub use laws::books_go_to_threads;
+pub use laws::{admissions_add_kept_batches, books_go_to_threads, kept_batches_hold_the_items};
 pub use row::Standing;

@@ -144,7 +144,7 @@ fn kept_batches_share_their_points(rt: HostRuntime) -> Result<(), Fail> {
     let one = batch(rt.alloc(), 6, &[8, 9])?;
     let mut book = RecordBook::new(rt.alloc());
     admit(rt.alloc(), &mut book, &one, 2)?;
-    let kept = &book.kept()[0];
+    let kept = book.kept().first().ok_or("no batch")?;
     assert_eq!(rt; (kept.input(), kept.loader(), kept.first()), (6, 2, 0));
     let shared = std::sync::Arc::try_clone(kept.points())?;
     assert_eq!(rt; shared.as_slice(), one.points());
@@ -162,11 +162,12 @@ fn each_item_has_its_point(rt: HostRuntime) -> Result<(), Fail> {
             places.push(dice.below(4096) as i32)?;
         }
         let batch = batch(rt.alloc(), input, &places)?;
+        let first = book.admitted();
         let place = admit(rt.alloc(), &mut book, &batch, 0)?;
-        for x in &places {
-            assert_eq!(rt; book.place_of(slow.len() as u32), place);
-            slow.push(*x)?;
+        for item in first..book.admitted() {
+            assert_eq!(rt; book.place_of(item), place);
         }
+        slow.extend_from_slice(&places)?;
         assert_eq!(rt; items(rt.alloc(), &book)?.as_slice(), slow.as_slice());
     }
     Ok(())

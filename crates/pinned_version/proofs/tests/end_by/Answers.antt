@@ -10,5 +10,6 @@ loop-batch-preserved c =
     c.loop-batch.invariant (subst (λ (b : BatchItems). end_of b ≤ c.args.number) c.batch-item.is (c.if-not-ends_by.ensures refl))
 
 pub returns : goal.returns
-returns c yes =
-    subst (All (λ (b : BatchItems). end_of b ≤ c.args.number)) (take_all c.loop-batch.batch-index c.args.batches.now c.loop-batch-test.false) c.loop-batch.invariant
+returns c whole =
+    subst (All (λ (b : BatchItems). end_of b ≤ c.args.number)) (take_all c.loop-batch.batch-index c.args.batches.now c.loop-batch-test.false)
+    c.loop-batch.invariant

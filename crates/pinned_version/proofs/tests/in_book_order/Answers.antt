@@ -1,4 +1,4 @@
-use Rattle.std.proofs.Common.{◌≡◌, ℕ, ◌-◌, ◌≤◌, All, AllPairs, List, [], ◌∷◌, ◌++◌, take, get_or, ap, refl, subst, sym, arith}
+use Rattle.std.proofs.Common.{◌≡◌, ℕ, ◌+◌, ◌-◌, ◌<◌, ◌≤◌, All, AllPairs, List, [], ◌∷◌, ◌++◌, length, take, get_or, refl, subst, sym, arith}
 use Rattle.std.proofs.lemmas.List.{take_all, take_more}
 use Rattle.std.proofs.lemmas.List.Quantifiers.{all_pairs_push}
 use Rattle.pinned_version.specs.Books.{BatchItems, end_of}
@@ -8,22 +8,28 @@ use Rattle.pinned_version.proofs.tests.in_book_order.Goals as goal
 abbrev EndsBefore : BatchItems → BatchItems → Type 0
 EndsBefore a b = end_of a ≤ b.first
 
+-- batches that end at a number or before it
+abbrev EndBy : ℕ → List BatchItems → Type 0
+EndBy number batches = All (λ (b : BatchItems). end_of b ≤ number) batches
+
+-- one batch more
+one_more : (xs : List BatchItems) (at first : ℕ) (last : BatchItems) → at < length xs → last ≡ get_or xs at last → first ≡ last.first
+    → AllPairs EndsBefore (take at xs) → EndBy first (take (at - 0) xs) → AllPairs EndsBefore (take (at + 1) xs)
+one_more xs at first last within read begins apart ends =
+    let whole : at - 0 ≡ at = omega arith in
+    let all : EndBy first (take at xs) = subst (λ (n : ℕ). EndBy first (take n xs)) whole ends in
+    let number : first ≡ (get_or xs at last).first = subst (λ (b : BatchItems). first ≡ b.first) read begins in
+    subst (AllPairs EndsBefore) (sym (take_more xs at last within))
+    (all_pairs_push EndsBefore (take at xs) (get_or xs at last) apart
+    (λ k d less. subst (λ (n : ℕ). end_of (get_or (take at xs) k d) ≤ n) number (all k d less)))
+
 pub loop-at-preserved : goal.loop-at-preserved
 loop-at-preserved c =
-    let xs : List BatchItems = c.args.batches.now in
-    let last : BatchItems = c.index-batches-at.result in
-    let whole : c.loop-at.at - 0 ≡ c.loop-at.at = omega arith in
-    let ends : All (λ (b : BatchItems). end_of b ≤ c.first.result) (take c.loop-at.at xs) =
-    subst (λ (n : ℕ). All (λ (b : BatchItems). end_of b ≤ c.first.result) (take n xs)) whole (c.if-not-end_by.ensures refl) in
-    let begins : c.first.result ≡ (get_or xs c.loop-at.at last).first = subst (λ (b : BatchItems). c.first.result ≡ b.first) c.index-batches-at.is c.first.ensures in
-    subst (AllPairs EndsBefore) (sym (take_more xs c.loop-at.at last c.loop-at-test.true))
-    (all_pairs_push EndsBefore (take c.loop-at.at xs) (get_or xs c.loop-at.at last) c.loop-at.invariant
-    (λ k d less. subst (λ (n : ℕ). end_of (get_or (take c.loop-at.at xs) k d) ≤ n) begins (ends k d less)))
+    one_more c.args.batches.now c.loop-at.at c.first.result c.index-batches-at.result c.loop-at-test.true c.index-batches-at.is c.first.ensures
+    c.loop-at.invariant (c.if-not-end_by.ensures refl)
 
 pub returns : goal.returns
-returns c yes =
-    let xs : List BatchItems = c.args.batches.now in
-    record {
-      apart = subst (AllPairs EndsBefore) (take_all c.loop-at.at xs c.loop-at-test.false) c.loop-at.invariant;
-      small = λ k d less. omega (arith, c.end_by-2.ensures yes k d less);
-    }
+returns c small = record {
+  apart = subst (AllPairs EndsBefore) (take_all c.loop-at.at c.args.batches.now c.loop-at-test.false) c.loop-at.invariant;
+  small = λ k d less. omega (arith, c.end_by-2.ensures small k d less);
+}

@@ -1,8 +1,7 @@
 -- The rows of versions: which nodes they are of, and what halving finds among them.
-use Rattle.std.proofs.Common.{Option, Some, None, IfNone, ◌≡◌, ℕ, ◌+◌, ◌<◌, ◌≤◌, Bool, true, false, List, [], ◌∷◌, map, length, get_or, AllPairs, Contains, refl, sym, ap, ◌∙◌, subst, inl, inr, arith}
-use Rattle.std.specs.Cmp.{IsTotalOrder}
+use Rattle.std.proofs.Common.{Option, Some, None, IfNone, ◌≡◌, ℕ, ◌+◌, ◌<◌, false, List, [], ◌∷◌, map, length, get_or, AllPairs, refl, sym, ap, ◌∙◌, subst, inl, inr, arith}
 use Rattle.std.specs.Cmp.Lexicographic.{slice_cmp}
-use Rattle.std.specs.List.{AllWithin, HoldsAt}
+use Rattle.std.specs.List.{HoldsAt}
 use Rattle.std.specs.List.Sorted.{IsNonDecreasingBy, IsPartitionPoint, IsSortedBy}
 use Rattle.std.specs.Ordering.{nat_cmp, is_lt, ordering_index, ordering_reverse}
 use Rattle.std.specs.declared.cmp.Ordering.{Ordering}
@@ -149,7 +148,9 @@ pub missing_at : (xs ys zs : List NodeRow) (path : List ℕ) (at : ℕ) → xs �
     → IsPartitionPoint (λ (y : NodeRow). compared path y ≡ Less) (λ (y : NodeRow). compared path y ≡ Greater) xs at)
     → (row : NodeRow) → IsRowAt zs path row → ⊥
 missing_at xs ys zs path at e f order parts row is =
-    row_missing xs path at (parts (rows_rise xs path (subst AreInPathOrder (sym e) order))) row (subst (λ (l : List NodeRow). IsRowAt l path row) (sym (e ∙ f)) is)
+    let in_order : AreInPathOrder xs = subst AreInPathOrder (sym e) order in
+    let there : IsRowAt xs path row = subst (λ (l : List NodeRow). IsRowAt l path row) (sym (e ∙ f)) is in
+    row_missing xs path at (parts (rows_rise xs path in_order)) row there
 
 -- ---- leaves are no inner nodes
 

@@ -1,5 +1,4 @@
 -- What the rows of nodes say.
-use Rattle.std.specs.Prelude.{Bool}
 use Rattle.octree_model.specs.declared.outline.OutlineNode.{OutlineNode}
 use Rattle.version_rows.specs.Versions.{NodeRowValue, RoleValue, is_inner, Leaf as LeafValue, Inner as InnerValue}
 use Rattle.pinned_version.specs.declared.node_row.NodeRow.{NodeRow}

@@ -93,12 +93,7 @@ impl PointBook {
 
     /// The point of an item, or None where no batch has it. It looks first into the batch at the place `near`, and leaves
     /// there the place where it looked last: no answer depends on it. One step.
-    pub fn get<L: Ledger>(
-        &self,
-        item: u32,
-        near: &mut usize,
-        steps: &mut Steps<L>,
-    ) -> Option<Point>
+    pub fn get<L: Ledger>(&self, item: u32, near: &mut usize, steps: &mut Steps<L>) -> Option<Point>
         ensures point { result ≡ point_of self.now item }
         ensures steps { steps.new ≡ steps.old + 1 }
     {

@@ -303,7 +303,10 @@ fn a_book_tells_each_item_wherever_a_look_begins(rt: HostRuntime) -> Result<(), 
     let book = five_items(rt.alloc())?;
     for near in [0, 1, 2, 3, usize::MAX] {
         let xs = xs_of::<Brand>(rt.alloc(), &book, near, Blank::new(1))?;
-        assert_eq!(rt; xs.as_slice(), [-1, -1, -1, 3, 4, -1, -1, 7, 8, 9, -1, -1].as_slice());
+        assert_eq!(rt;
+            xs.as_slice(),
+            [-1, -1, -1, 3, 4, -1, -1, 7, 8, 9, -1, -1].as_slice()
+        );
     }
     Ok(())
 }

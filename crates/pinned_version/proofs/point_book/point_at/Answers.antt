@@ -1,6 +1,5 @@
-use Rattle.std.proofs.Common.{◌≡◌, ℕ, ◌+◌, ◌<◌, ◌≤◌, Some, slice_get, length, arith, refl, sym, ◌∙◌}
+use Rattle.std.proofs.Common.{◌≡◌, Some, slice_get, length, arith, refl, sym, ◌∙◌}
 use Rattle.std.proofs.lemmas.Option.{slice_get_read}
-use Rattle.pinned_version.specs.Books.{BatchItems, AreInOrder, point_in, point_of, end_of}
 use Rattle.pinned_version.proofs.BookLaws.{last_before}
 use Rattle.pinned_version.proofs.point_book.point_at.Goals as goal
 

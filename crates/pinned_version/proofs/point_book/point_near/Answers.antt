@@ -1,6 +1,5 @@
-use Rattle.std.proofs.Common.{◌≡◌, ℕ, ◌<◌, Some, slice_get, length, refl, sym, ◌∙◌}
+use Rattle.std.proofs.Common.{◌≡◌, Some, slice_get, length, refl, sym, ◌∙◌}
 use Rattle.std.proofs.lemmas.Option.{slice_get_read}
-use Rattle.pinned_version.specs.Books.{BatchItems, point_in, point_of}
 use Rattle.pinned_version.proofs.BookLaws.{found_there}
 use Rattle.pinned_version.proofs.point_book.point_near.Goals as goal
 

@@ -1,4 +1,4 @@
-use Rattle.std.proofs.Common.{◌≡◌, ℕ, List, None, ap, ◌∙◌}
+use Rattle.std.proofs.Common.{List, ap, ◌∙◌}
 use Rattle.pinned_version.specs.Books.{BatchItems, point_of}
 use Rattle.pinned_version.proofs.BookLaws.{none_begun}
 use Rattle.pinned_version.proofs.point_book.PointBook.get.Goals as goal

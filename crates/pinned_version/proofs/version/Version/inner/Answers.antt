@@ -1,4 +1,4 @@
-use Rattle.std.proofs.Common.{◌≡◌, List, sym}
+use Rattle.std.proofs.Common.{List, sym}
 use Rattle.voxel_sampler.specs.Nears.{NearValue}
 use Rattle.pinned_version.specs.Pinned.{IsInnerRow}
 use Rattle.pinned_version.specs.declared.node_row.NodeRow.{NodeRow}

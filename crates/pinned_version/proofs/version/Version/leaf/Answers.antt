@@ -1,4 +1,3 @@
-use Rattle.std.proofs.Common.{◌≡◌, List}
 use Rattle.version_rows.specs.Versions.{ChainsValue}
 use Rattle.pinned_version.specs.Pinned.{IsLeafRow}
 use Rattle.pinned_version.specs.declared.node_row.NodeRow.{NodeRow}

@@ -1,4 +1,4 @@
-use Rattle.std.proofs.Common.{◌≡◌, List, ap, rules}
+use Rattle.std.proofs.Common.{ap, rules}
 use Rattle.std.proofs.lemmas.List.Sorted.{answers_always}
 use Rattle.pinned_version.specs.Pinned.{PinnedValue}
 use Rattle.pinned_version.specs.declared.node_row.NodeRow.{NodeRow}

@@ -1,5 +1,5 @@
 -- An item that comes to its home.
-use Rattle.std.proofs.Common.{◌≡◌, ◌≢◌, ℕ, zero, suc, ◌+◌, ◌*◌, ◌<◌, ◌≤◌, inl, inr, Bool, true, false, cond, ◌&&◌, ◌==◌, nat_lt, List, [], ◌∷◌, ◌++◌, length, get_or, set, Contains, IsTrue, refl, ap, sym, ◌∙◌, subst, arith, length-append, eq-eqb, add_assoc, ne_eqb}
+use Rattle.std.proofs.Common.{◌≡◌, ◌≢◌, ℕ, zero, suc, ◌+◌, ◌*◌, ◌<◌, ◌≤◌, inl, inr, Bool, true, false, cond, ◌&&◌, ◌==◌, nat_lt, List, [], ◌∷◌, ◌++◌, length, get_or, set, IsTrue, refl, ap, sym, ◌∙◌, subst, arith, length-append, eq-eqb, add_assoc}
 use Rattle.std.specs.List.{range_with_len, count_by}
 use Rattle.std.proofs.lemmas.Bool.{cases_eq}
 use Rattle.std.proofs.lemmas.List.{get_or-set_same, get_or-set_other}
@@ -215,6 +215,7 @@ placed_one s t x open_now =
     let new : Row = placed_in (row s t) x in
     record {
       rest = refl;
+      lists = length-set s.rows t new;
       rows = λ l. elim (cases_eq l t) [
         | inl same ↦
             let is : row (with_row s t new) l ≡ new = ap (row (with_row s t new)) same ∙ row-with_row s t new (open_row s t open_now) in
@@ -228,7 +229,7 @@ placed_one s t x open_now =
     }
 
 pub placed_none : (s : Store) → OnlyPlaced s s
-placed_none s = record { rest = refl; rows = λ l. refl; others = λ l n. refl; held = refl }
+placed_none s = record { rest = refl; lists = refl; rows = λ l. refl; others = λ l n. refl; held = refl }
 
 pub open_stays : (s t : Store) (l : ℕ) → OnlyPlaced s t → IsOpen s l → IsOpen t l
 open_stays s t l p o = ap (λ (r : Row). r.phase) (p.rows l) ∙ o
@@ -239,6 +240,7 @@ open_was s t l p o = sym (ap (λ (r : Row). r.phase) (p.rows l)) ∙ o
 pub placed_more : (s t u : Store) → OnlyPlaced s t → OnlyPlaced t u → OnlyPlaced s u
 placed_more s t u p q = record {
   rest = q.rest ∙ ap (λ (v : Store). record v { rows = u.rows }) p.rest;
+  lists = q.lists ∙ p.lists;
   rows = λ l. q.rows l ∙ ap (λ (r : Row). record r { placed = (row u l).placed }) (p.rows l);
   others = λ l not_open. q.others l (λ o. not_open (open_was s t l p o)) ∙ p.others l not_open;
   held = q.held ∙ p.held;

@@ -1,12 +1,12 @@
 -- Items of a filer that comes back.
-use Rattle.std.proofs.Common.{◌≡◌, ◌⊎◌, ℕ, ◌+◌, ◌<◌, inl, inr, Bool, true, false, ◌&&◌, ◌||◌, not, List, [], ◌∷◌, ◌++◌, length, get_or, take, Contains, IsTrue, Option, Some, refl, ap, sym, ◌∙◌, subst, arith}
+use Rattle.std.proofs.Common.{◌≡◌, ℕ, ◌+◌, ◌<◌, inl, inr, Bool, true, false, ◌&&◌, ◌||◌, not, List, [], ◌∷◌, ◌++◌, length, get_or, take, Contains, IsTrue, Option, Some, refl, ap, sym, ◌∙◌, subst, arith}
 use Rattle.std.proofs.lemmas.Grind.{common_steps}
-use Rattle.std.proofs.lemmas.List.{take_more, take_all}
+use Rattle.std.proofs.lemmas.List.{take_more}
 use Rattle.std.proofs.lemmas.List.Elements.{Contains-push_cases}
 use Rattle.list_words.specs.declared.leaf_lists.Answer.{Answer}
 use Rattle.list_words.specs.declared.leaf_lists.Filed.{Filed}
 use Rattle.list_words.specs.declared.leaf_lists.Filed.TheVariants.{At, Late}
-use Rattle.list_words.specs.Store.{Store, Row, IsOpen, IsShut, Keeps, row, chunks_of, found_in, one_less}
+use Rattle.list_words.specs.Store.{Store, Row, IsShut, Keeps, row, chunks_of, found_in, one_less}
 use Rattle.item_moves.specs.Homes.{AreHomed, IsKnownIn, OnlyHome, OnlyPlaced}
 use Rattle.item_moves.specs.Late.{AreBack, is_fair, is_late}
 use Rattle.item_moves.specs.Settled.{AreSettled, StandsIn}

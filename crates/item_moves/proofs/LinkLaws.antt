@@ -1,7 +1,8 @@
 -- Claimed chains that grow.
-use Rattle.std.proofs.Common.{◌≡◌, ◌≢◌, ℕ, zero, suc, ◌+◌, ◌-◌, ◌*◌, ◌/◌, ◌<◌, ◌≤◌, inl, inr, false, cond, ◌==◌, List, [], ◌∷◌, ◌++◌, length, get_or, take, sum_by, AllPairs, refl, ap, sym, ◌∙◌, subst, arith, length-append, eq-eqb, append_assoc}
+use Rattle.std.proofs.Common.{◌≡◌, ◌≢◌, ℕ, zero, suc, ◌+◌, ◌-◌, ◌*◌, ◌<◌, ◌≤◌, inl, inr, false, cond, ◌==◌, List, [], ◌∷◌, ◌++◌, length, get_or, take, sum_by, AllPairs, refl, ap, sym, ◌∙◌, subst, arith, length-append, eq-eqb, append_assoc}
+use Rattle.std.proofs.Math.ListN.{length-set}
 use Rattle.std.proofs.lemmas.Bool.{cases_eq}
-use Rattle.std.proofs.lemmas.List.{append-nil, take_more, take_all}
+use Rattle.std.proofs.lemmas.List.{append-nil, take_more}
 use Rattle.std.proofs.lemmas.List.Sums.{sum_by-append, sum_by-cons, sum_by-take-le}
 use Rattle.chunk_pool.specs.Amounts.{chunks_for}
 use Rattle.list_machine.specs.declared.views.Grant.{Grant}
@@ -34,6 +35,7 @@ pub linked_same : (s t : Store) (grown grown' : ℕ → ℕ) (all all' : ℕ) �
     → AreLinked s t grown' all'
 linked_same s t grown grown' all all' e f h = record {
   rest = h.rest;
+  lists = h.lists;
   free = ap (λ n. t.free + n) (sym f) ∙ h.free;
   rows = h.rows;
   longer = λ l. let more = h.longer l in (more.0, more.1, more.2 ∙ e l);
@@ -44,6 +46,7 @@ linked_same s t grown grown' all all' e f h = record {
 pub linked_none : (s : Store) (grown : ℕ → ℕ) → ((l : ℕ) → grown l ≡ 0) → AreLinked s s grown 0
 linked_none s grown none = record {
   rest = refl;
+  lists = refl;
   free = plus_none s.free;
   rows = λ l. refl;
   longer = λ l. ([], sym (append-nil (row s l).claimed), sym (none l));
@@ -55,6 +58,7 @@ pub linked_more : (s t u : Store) (one two both : ℕ → ℕ) (n m all : ℕ) �
     → n + m ≡ all → AreLinked s u both all
 linked_more s t u one two both n m all h k e f = record {
   rest = k.rest ∙ ap (λ (v : Store). record v { rows = u.rows; free = u.free }) h.rest;
+  lists = k.lists ∙ h.lists;
   free = omega (arith, f, h.free, k.free);
   rows = λ l. k.rows l ∙ ap (λ (r : Row). record r { claimed = (row u l).claimed; claimed_room = (row u l).claimed_room }) (h.rows l);
   longer = λ l.
@@ -88,6 +92,7 @@ linked_one s list c o room free =
     let one : (l : ℕ) → l ≡ list → one_grown list 1 l ≡ 1 = λ l same. ap (one_grown list 1) same ∙ grown_here list 1 in
     record {
       rest = refl;
+      lists = length-set s.rows list (linked (row s list) c);
       free = omega arith;
       rows = λ l. elim (cases_eq l list) [
         | inl same ↦ at l same ∙ (λ i. record (row s l) { claimed = (sym (at l same) i).claimed; claimed_room = (sym (at l same) i).claimed_room })

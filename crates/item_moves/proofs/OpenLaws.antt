@@ -1,10 +1,11 @@
 -- A list that is opened for a new leaf.
 use Rattle.std.proofs.Common.{◌≡◌, ◌≢◌, ℕ, suc, ◌+◌, ◌-◌, ◌*◌, ◌<◌, ◌≤◌, inl, inr, Bool, true, false, cond, ◌==◌, ◌&&◌, nat_lt, List, [], ◌∷◌, ◌++◌, length, get_or, refl, ap, sym, ◌∙◌, subst, arith, length-append}
+use Rattle.std.proofs.Math.ListN.{length-set}
 use Rattle.std.specs.List.{count_by}
 use Rattle.std.proofs.lemmas.Bool.{cases_eq, cases_lt}
 use Rattle.std.proofs.lemmas.List.Sums.{sum_by-cons}
 use Rattle.chunk_pool.specs.Amounts.{chunks_for}
-use Rattle.list_words.specs.Store.{Store, Row, IsOpen, Keeps, held_of, row, with_row, with_chunk, opened, lengthened}
+use Rattle.list_words.specs.Store.{Store, Row, IsOpen, Keeps, row, with_row, with_chunk, opened, lengthened}
 use Rattle.list_words.specs.declared.leaf_lists.Phase.TheVariants.{Fresh}
 use Rattle.list_words.proofs.RowLaws.{fresh_holds, open_holds, open_row, row-with_row, row-with_row_other}
 use Rattle.item_moves.specs.Homes.{AreHomed, home_count, guest_count, is_home}
@@ -20,6 +21,7 @@ opened_none s list low fresh =
     let here : row t list ≡ opened (row s list) = row-with_row s list (opened (row s list)) low in
     record {
       rest = refl;
+      lists = length-set s.rows list (opened (row s list));
       free = plus_none s.free;
       others = λ l ne. row-with_row_other s list l (opened (row s list)) ne;
       here = here ∙ (λ i. record (opened (row s list)) { owned = (sym here i).owned; owned_room = (sym here i).owned_room });
@@ -40,6 +42,7 @@ opened_more s t list n c h room free =
     let here : row u list ≡ new = row-with_row t list new (open_row t list o) in
     record {
       rest = ap (λ (v : Store). record v { rows = u.rows; free = u.free }) h.rest;
+      lists = length-set t.rows list new ∙ h.lists;
       free = omega (arith, h.free);
       others = λ l ne. row-with_row_other t list l new ne ∙ h.others l ne;
       here = here ∙ ap (λ (r : Row). record r { owned = (row t list).owned ++ c ∷ []; owned_room = (row t list).owned_room - 1 }) h.here

@@ -1,6 +1,6 @@
 -- Swept lists that are cleared.
-use Rattle.std.proofs.Common.{◌≡◌, ℕ, inl, inr, Bool, List, [], length, count_by, ◌==◌, take, Contains, ap, sym, ◌∙◌, subst, arith}
-use Rattle.list_words.specs.Store.{Store, Row, IsOpen, IsShut, IsReclaimed, IsCleared, emptied, found_in, row}
+use Rattle.std.proofs.Common.{◌≡◌, ℕ, inl, inr, Bool, List, length, count_by, ◌==◌, Contains, ap, sym, ◌∙◌, subst, arith}
+use Rattle.list_words.specs.Store.{Store, Row, IsOpen, IsShut, IsReclaimed, IsCleared, found_in, row}
 use Rattle.list_words.proofs.RowLaws.{reclaimed_each, reclaimed_open}
 use Rattle.item_moves.specs.Homes.{AreHomed}
 use Rattle.item_moves.specs.Settled.{AreSettled}

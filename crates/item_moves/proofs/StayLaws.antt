@@ -1,8 +1,8 @@
 -- Homes while chains grow, grants are given, and filers and readers come and go.
-use Rattle.std.proofs.Common.{◌≡◌, ℕ, ◌*◌, ◌≤◌, Bool, ◌==◌, List, ◌++◌, length, Contains, refl, ap, sym, ◌∙◌, subst, arith}
+use Rattle.std.proofs.Common.{◌≡◌, ℕ, Bool, ◌==◌, List, ◌++◌, length, Contains, refl, ap, sym, ◌∙◌, subst, arith}
 use Rattle.std.specs.List.{count_by, filter_map}
 use Rattle.list_machine.specs.declared.views.Grant.{Grant}
-use Rattle.list_words.specs.Store.{Store, Row, IsOpen, IsShut, Keeps, SameBesidesGranted, admitted, found_in, one_less, one_more, row}
+use Rattle.list_words.specs.Store.{Store, Row, IsOpen, Keeps, SameBesidesGranted, admitted, found_in, one_less, one_more, row}
 use Rattle.list_words.proofs.RowLaws.{row-grant_rows}
 use Rattle.item_moves.specs.Homes.{AreHomed, HasSameItems}
 use Rattle.item_moves.specs.Links.{AreLinked}

@@ -8,8 +8,7 @@ use Rattle.std.proofs.lemmas.List.Sums.{sum_by-append}
 use Rattle.list_words.specs.Store.{Store, Row, IsOpen, IsShut, row, chunks_of, held_of}
 use Rattle.item_moves.specs.Aimed.{AreAimed}
 use Rattle.item_moves.specs.Homes.{OnlyHome, OnlyPlaced}
-use Rattle.item_moves.specs.Settled.{AreSwept, IsKept}
-use Rattle.item_moves.specs.Homes.{IsKnownIn}
+use Rattle.item_moves.specs.Settled.{AreSwept}
 use Rattle.item_moves.proofs.HomeLaws.{open_stays, open_was}
 use Rattle.item_moves.proofs.SweepLaws.{sum_one, first_one, only_one, not_both}
 
@@ -40,6 +39,7 @@ plus_none n = omega arith
 pub swept_none : (s : Store) → AreSwept s s []
 swept_none s = record {
   rest = (λ i. record s { order = sym (append-nil s.order) i; out = sym (append-nil s.out) i });
+  lists = refl;
   rows = λ l n. refl;
   others = λ l n o. refl;
   shut = λ l c. absurd (no_one l c);
@@ -73,6 +73,7 @@ module _ (s t : Store) (done : List ℕ) (w : AreSwept s t done) where
       record {
         rest = v.rest ∙ ap (λ (x : Store). record x { rows = u.rows; order = x.order ++ from ∷ []; out = x.out ++ map none (from ∷ []) }) w.rest
             ∙ (λ i. record s { rows = u.rows; order = append_assoc s.order done (from ∷ []) i; out = zeros i });
+        lists = v.lists ∙ w.lists;
         rows = λ l n. v.rows l (not_new l n) ∙ ap (λ (r : Row). record r { placed = (row u l).placed }) (w.rows l (not_old l n));
         others = λ l n not_open. v.others l (not_new l n) (λ o. not_open (swept_was l (not_old l n) o)) ∙ w.others l (not_old l n) not_open;
         shut = λ l c. elim (Contains-append_cases done (from ∷ []) l c) [
@@ -98,6 +99,7 @@ module _ (s t : Store) (done : List ℕ) (w : AreSwept s t done) where
   pub swept_placed : (u : Store) → OnlyPlaced t u → AreSwept s u done
   swept_placed u p = record {
     rest = p.rest ∙ ap (λ (v : Store). record v { rows = u.rows }) w.rest;
+    lists = p.lists ∙ w.lists;
     rows = λ l n. p.rows l ∙ ap (λ (r : Row). record r { placed = (row u l).placed }) (w.rows l n);
     others = λ l n not_open. p.others l (λ o. not_open (swept_was l n o)) ∙ w.others l n not_open;
     shut = λ l c. ap (λ (r : Row). r.phase) (p.rows l) ∙ w.shut l c;

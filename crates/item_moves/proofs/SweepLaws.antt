@@ -1,6 +1,7 @@
 -- A list that is swept.
-use Rattle.std.proofs.Common.{◌≡◌, ◌≢◌, ℕ, ◌+◌, ◌<◌, inl, inr, Bool, List, [], ◌∷◌, ◌++◌, length, count_by, ◌==◌, get_or, sum_by, Contains, IsTrue, Option, ap, sym, ◌∙◌, subst, arith}
+use Rattle.std.proofs.Common.{◌≡◌, ◌≢◌, ℕ, ◌+◌, ◌<◌, inl, inr, Bool, List, [], ◌∷◌, length, count_by, ◌==◌, get_or, sum_by, Contains, IsTrue, Option, ap, sym, ◌∙◌, subst, arith}
 use Rattle.std.proofs.lemmas.Bool.{cases_eq}
+use Rattle.std.proofs.Math.ListN.{length-set}
 use Rattle.std.proofs.lemmas.Grind.{common_steps}
 use Rattle.std.proofs.lemmas.List.Elements.{Contains-append_cases}
 use Rattle.std.proofs.lemmas.List.Sums.{sum_by-cons}
@@ -87,6 +88,7 @@ module _ (s : Store) (from : ℕ) (marked : List (Option ℕ)) (o : IsOpen s fro
         let is_shut : IsShut shut from = ap (λ (r : Row). r.phase) shut_row in
         record {
           rest = p.rest;
+          lists = p.lists ∙ length-set s.rows from (shut_with (row s from) marked);
           rows = λ l n. p.rows l ∙ ap (λ (r : Row). record r { placed = (row t l).placed }) (shut_row_other l (apart l n));
           others = λ l n not_open. p.others l (λ there. not_open (was l there)) ∙ shut_row_other l (apart l n);
           shut = λ l c. ap (λ k. (row t k).phase) (only_one from l c) ∙ ap (λ (r : Row). r.phase) found_there ∙ is_shut;

@@ -31,6 +31,7 @@ pub record AreHomed (s : Store) (knows : ℕ → ℕ → ℕ → Type 0) (guest 
 -- nothing happened but that items were placed in open lists
 pub record OnlyPlaced (s t : Store) : Type 0 where
   pub rest : t ≡ record s { rows = t.rows }
+  pub lists : length t.rows ≡ length s.rows
   pub rows : (l : ℕ) → row t l ≡ record (row s l) { placed = (row t l).placed }
   pub others : (l : ℕ) → (IsOpen s l → ⊥) → row t l ≡ row s l
   pub held : held_of t ≡ held_of s

@@ -7,6 +7,7 @@ use Rattle.list_words.specs.Store.{Store, held_of, row}
 -- free chunks were put at the ends of claimed chains, `grown l` at that of a list l and so many in all, and nothing else happened
 pub record AreLinked (s t : Store) (grown : ℕ → ℕ) (all : ℕ) : Type 0 where
   pub rest : t ≡ record s { rows = t.rows; free = t.free }
+  pub lists : length t.rows ≡ length s.rows
   pub free : t.free + all ≡ s.free
   pub rows : (l : ℕ) → row t l ≡ record (row s l) { claimed = (row t l).claimed; claimed_room = (row t l).claimed_room }
   pub longer : (l : ℕ) → (more : List ℕ) × ((row t l).claimed ≡ (row s l).claimed ++ more) × (length more ≡ grown l)

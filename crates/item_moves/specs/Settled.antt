@@ -7,6 +7,7 @@ use Rattle.item_moves.specs.Homes.{IsKnownIn}
 -- open lists
 pub record AreSwept (s t : Store) (done : List ℕ) : Type 0 where
   pub rest : t ≡ record s { rows = t.rows; order = s.order ++ done; out = s.out ++ map (λ l. 0) done }
+  pub lists : length t.rows ≡ length s.rows
   pub rows : (l : ℕ) → (Contains done l → ⊥) → row t l ≡ record (row s l) { placed = (row t l).placed }
   pub others : (l : ℕ) → (Contains done l → ⊥) → (IsOpen s l → ⊥) → row t l ≡ row s l
   pub shut : (l : ℕ) → Contains done l → IsShut t l

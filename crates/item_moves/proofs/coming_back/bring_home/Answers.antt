@@ -1,16 +1,15 @@
 use Rattle.std.proofs.Common.{ap, sym, ◌∙◌, subst, IsTrue, ◌≡◌, ℕ, ◌<◌, List, [], Bool, Contains, length, arith, inl, inr, get_or}
 use Rattle.std.proofs.lemmas.List.Elements.{All-contains}
 use Rattle.list_words.specs.declared.leaf_lists.Answer.{Answer}
-use Rattle.list_words.specs.Store.{Store, Row, IsOpen, IsShut, IsStanding, row, chunks_of, found_in, one_less}
-use Rattle.item_moves.specs.Aimed.{AreAimed}
+use Rattle.list_words.specs.Store.{Store, Row, IsOpen, IsShut, IsStanding, row}
 use Rattle.item_moves.specs.Homes.{AreHomed, IsKnownIn}
 use Rattle.item_moves.specs.Late.{is_fair}
-use Rattle.item_moves.specs.Settled.{AreSettled, AreSwept, StandsIn}
+use Rattle.item_moves.specs.Settled.{AreSettled}
 use Rattle.item_moves.proofs.FoundLaws.{home_twice}
 use Rattle.item_moves.proofs.HomeLaws.{open_stays}
 use Rattle.item_moves.proofs.LateLaws.{fair_covers, filed_or_late, found_home, homed_back, in_chains, late_home, settled_back, settled_placed}
 use Rattle.item_moves.proofs.SweepLaws.{not_both, still_known}
-use Rattle.item_moves.proofs.SweepAllLaws.{aimed_all, aimed_still, aimed_placed, shut_still, swept_open, swept_placed}
+use Rattle.item_moves.proofs.SweepAllLaws.{aimed_all, aimed_still, shut_still, swept_open, swept_placed}
 use Rattle.item_moves.proofs.coming_back.bring_home.Goals as goal
 
 pub place_late-requires-clause-aimed : goal.place_late-requires-clause-aimed

@@ -1,4 +1,4 @@
-use Rattle.std.proofs.Common.{◌≡◌, ◌<◌, ◌∙◌, ap, sym, subst, ℕ, true, length, inl, inr}
+use Rattle.std.proofs.Common.{◌≡◌, ◌∙◌, sym, true, inl, inr}
 use Rattle.item_moves.proofs.FoundLaws.{aimed}
 use Rattle.item_moves.proofs.SweepAllLaws.{no_one}
 use Rattle.item_moves.proofs.coming_back.place_answer.Goals as goal

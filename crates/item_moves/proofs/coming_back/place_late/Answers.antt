@@ -1,4 +1,3 @@
-use Rattle.std.proofs.Common.{get_or}
 use Rattle.list_words.specs.declared.leaf_lists.Answer.{Answer}
 use Rattle.list_words.specs.declared.leaf_lists.Filed.TheVariants.{At}
 use Rattle.item_moves.proofs.FoundLaws.{home_none, home_twice}

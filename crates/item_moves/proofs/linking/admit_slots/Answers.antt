@@ -1,10 +1,9 @@
-use Rattle.std.proofs.Common.{ap, sym, ◌∙◌, subst, ◌≡◌, ◌<◌, ℕ, List, sum, length, arith, get_or}
+use Rattle.std.proofs.Common.{ap, sym, subst, sum, arith, get_or}
 use Rattle.std.proofs.lemmas.List.Elements.{Contains-get_or}
 use Rattle.list_machine.specs.declared.views.Grant.{Grant}
-use Rattle.list_words.specs.Store.{Store, admitted, row}
+use Rattle.list_words.specs.Store.{Store, admitted}
 use Rattle.item_moves.specs.Homes.{AreHomed}
 use Rattle.item_moves.specs.Settled.{AreSettled}
-use Rattle.item_moves.specs.Links.{AreLinked}
 use Rattle.item_moves.proofs.LinkLaws.{linked_open}
 use Rattle.item_moves.proofs.StayLaws.{granted_items, homed_stays, settled_stays}
 use Rattle.item_moves.proofs.linking.admit_slots.Goals as goal

@@ -1,10 +1,10 @@
-use Rattle.std.proofs.Common.{ap, sym, ◌∙◌, subst, ◌≡◌, ◌+◌, ◌*◌, ◌<◌, ◌≤◌, ℕ, List, length, arith, get_or, take, refl}
+use Rattle.std.proofs.Common.{subst, ◌≡◌, ◌+◌, ◌*◌, ◌≤◌, ℕ, List, length, arith, get_or, take, refl}
 use Rattle.std.proofs.lemmas.List.{take_all}
 use Rattle.std.proofs.lemmas.List.Elements.{Contains-get_or}
 use Rattle.list_machine.specs.declared.views.Grant.{Grant}
-use Rattle.list_words.specs.Store.{Store, Row, row}
+use Rattle.list_words.specs.Store.{Store, row}
 use Rattle.item_moves.specs.Links.{AreLinked, lacking, lacking_in, lacking_in_all, one_grown}
-use Rattle.item_moves.proofs.LinkLaws.{few_so_far, lacking_all_more, lacking_more, lacking_still, linked_more, linked_none, linked_open, linked_same, not_yet, room_still, slots_after}
+use Rattle.item_moves.proofs.LinkLaws.{few_so_far, lacking_all_more, lacking_more, lacking_still, linked_more, linked_none, linked_open, not_yet, room_still, slots_after}
 use Rattle.item_moves.proofs.StayLaws.{homed_stays, linked_items, settled_stays}
 use Rattle.item_moves.proofs.linking.link_for_grants.Goals as goal
 

@@ -1,7 +1,6 @@
-use Rattle.std.proofs.Common.{sym, subst, ◌≡◌, ◌+◌, ℕ, ◌≤◌, ◌*◌, arith}
+use Rattle.std.proofs.Common.{sym, subst, ◌≡◌, ◌+◌, arith}
 use Rattle.chunk_pool.specs.Amounts.{chunks_for}
 use Rattle.list_words.specs.Store.{Store}
-use Rattle.item_moves.specs.Homes.{guest_count}
 use Rattle.item_moves.specs.Opened.{IsOpened}
 use Rattle.item_moves.proofs.OpenLaws.{opened_none, opened_open, opened_more, homed_opened, slots_for}
 use Rattle.item_moves.proofs.opening.open_leaf.Goals as goal

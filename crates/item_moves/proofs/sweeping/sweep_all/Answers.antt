@@ -1,5 +1,5 @@
 use Rattle.std.proofs.Common.{ap, sym, subst, ◌≡◌, ℕ, ◌<◌, ◌+◌, List, Bool, Contains, [], ◌∷◌, ◌++◌, get_or, take, drop, length, arith, inl, inr}
-use Rattle.std.proofs.lemmas.List.{drop_all, drop_more, take_all, take_more}
+use Rattle.std.proofs.lemmas.List.{drop_all, drop_more, take_more}
 use Rattle.std.proofs.lemmas.List.Elements.{Contains-get_or}
 use Rattle.list_words.specs.Store.{Store, IsOpen, row, chunks_of}
 use Rattle.item_moves.specs.Aimed.{AreAimed}

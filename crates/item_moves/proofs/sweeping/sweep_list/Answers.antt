@@ -1,5 +1,5 @@
-use Rattle.std.proofs.Common.{ap, sym, ◌∙◌, subst, ◌≡◌, ℕ, Bool, List, Contains, ◌++◌}
-use Rattle.list_words.specs.Store.{Store, Row, IsOpen, row, found_in, shut_now}
+use Rattle.std.proofs.Common.{ap, sym, ◌∙◌, subst, ◌≡◌, ℕ, List, Contains, ◌++◌}
+use Rattle.list_words.specs.Store.{Store, Row, IsOpen, row, found_in}
 use Rattle.item_moves.specs.Homes.{AreHomed, IsAlone, OnlyPlaced}
 use Rattle.item_moves.proofs.SweepLaws.{homed_shut, alone_shut, leaf_open, swept_one, found_there}
 use Rattle.item_moves.proofs.sweeping.sweep_list.Goals as goal

@@ -1,4 +1,4 @@
-use Rattle.std.proofs.Common.{◌≡◌, ℕ, ◌+◌, ◌-◌, ◌<◌, ◌≤◌, All, AllPairs, List, [], ◌∷◌, ◌++◌, length, take, get_or, refl, subst, sym, arith}
+use Rattle.std.proofs.Common.{◌≡◌, ℕ, ◌+◌, ◌<◌, ◌≤◌, All, AllPairs, List, [], ◌∷◌, ◌++◌, length, take, get_or, refl, subst, sym, arith}
 use Rattle.std.proofs.lemmas.List.{take_all, take_more}
 use Rattle.std.proofs.lemmas.List.Quantifiers.{all_pairs_push}
 use Rattle.pinned_version.specs.Books.{BatchItems, end_of}
@@ -14,14 +14,12 @@ EndBy number batches = All (λ (b : BatchItems). end_of b ≤ number) batches
 
 -- one batch more
 one_more : (xs : List BatchItems) (at first : ℕ) (last : BatchItems) → at < length xs → last ≡ get_or xs at last → first ≡ last.first
-    → AllPairs EndsBefore (take at xs) → EndBy first (take (at - 0) xs) → AllPairs EndsBefore (take (at + 1) xs)
+    → AllPairs EndsBefore (take at xs) → EndBy first (take at xs) → AllPairs EndsBefore (take (at + 1) xs)
 one_more xs at first last within read begins apart ends =
-    let whole : at - 0 ≡ at = omega arith in
-    let all : EndBy first (take at xs) = subst (λ (n : ℕ). EndBy first (take n xs)) whole ends in
     let number : first ≡ (get_or xs at last).first = subst (λ (b : BatchItems). first ≡ b.first) read begins in
     subst (AllPairs EndsBefore) (sym (take_more xs at last within))
     (all_pairs_push EndsBefore (take at xs) (get_or xs at last) apart
-    (λ k d less. subst (λ (n : ℕ). end_of (get_or (take at xs) k d) ≤ n) number (all k d less)))
+    (λ k d less. subst (λ (n : ℕ). end_of (get_or (take at xs) k d) ≤ n) number (ends k d less)))
 
 pub loop-at-preserved : goal.loop-at-preserved
 loop-at-preserved c =

@@ -188,7 +188,7 @@ module _ (s : Store) (knows : ℕ → ℕ → ℕ → Type 0) (guest : ℕ → �
       ];
       once = λ l y o. elim (cases_eq l t) [
         | inl same ↦
-              ap (λ (r : Row). count_by (λ z. z == y) r.placed) (here l same) ∙ once_here y ∙ ap (λ k. cond (is_home (set homes x t) k y) 1 0) (sym same)
+            ap (λ (r : Row). count_by (λ z. z == y) r.placed) (here l same) ∙ once_here y ∙ ap (λ k. cond (is_home (set homes x t) k y) 1 0) (sym same)
         | inr other ↦
             ap (λ (r : Row). count_by (λ z. z == y) r.placed) (row-with_row_other s t l new other) ∙ h.once l y (open_before l o)
             ∙ ap (λ b. cond b 1 0) (home_elsewhere l y other (open_before l o))

@@ -43,7 +43,7 @@ module _ (a : Inside) (v : BookValue) (k : IsKept a) (is : book_of a ≡ v) wher
       → slice_get (kept_of v.events) place ≡ Some b
   view_batch place b low read =
       ap (λ (l : List KeptValue). slice_get l place) (sym view_kept) ∙ slice_get-get_or a.kept.items place b (omega (arith, low, ap length view_kept))
-          ∙ ap Some (sym read)
+      ∙ ap Some (sym read)
 
   -- a kept batch has a point, so that its first item was admitted
   pub view_full : (place : ℕ) (b : KeptValue) → slice_get (kept_of v.events) place ≡ Some b → 1 ≤ length b.points

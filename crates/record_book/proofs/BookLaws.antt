@@ -12,7 +12,7 @@ use Rattle.std.proofs.lemmas.Option.{slice_get_within}
 use Rattle.cube_math.specs.Points.{PointValue}
 use Rattle.cube_math.specs.declared.config.Entry.{Entry}
 use Rattle.record_model.specs.Admissions.{admitted, admitted_points}
-use Rattle.record_model.specs.Records.{Record, JournalEntry, entry_of, journal}
+use Rattle.record_model.specs.Records.{Record, JournalEntry, journal}
 use Rattle.record_model.specs.declared.event.Event.{Event}
 use Rattle.record_model.specs.declared.event.Event.TheVariants.{Admission, Look, Publication}
 use Rattle.record_model.proofs.RecordLaws.{journal-append}
@@ -68,7 +68,7 @@ rows_later n m rows e all = subst (λ (k : ℕ). All (IsRowOf k) rows) (sym e) (
 pub kept_same : (events : Record) (e : Event × ℕ) → ((n : ℕ) → kept_from n (e ∷ []) ≡ []) → kept_of (events ++ e ∷ []) ≡ kept_of events
 kept_same events e none =
     kept_from-append 0 events (e ∷ []) ∙ ap (λ (l : List KeptValue). kept_of events ++ l) (none (0 + length (points_in (kept_of events))))
-        ∙ append-nil (kept_of events)
+    ∙ append-nil (kept_of events)
 
 pub kept_more : (events : Record) (b : KeptValue) → b.first ≡ length (points_in (kept_of events))
     → kept_of (events ++ (Admission b.input b.points, b.loader) ∷ []) ≡ kept_of events ++ b ∷ []
@@ -96,7 +96,7 @@ items_same events e none = points_kept (events ++ e ∷ []) ∙ ap points_in (ke
 entries_same : (events : Record) (e : Event × ℕ) → journal (e ∷ []) ≡ [] → entries_of events ≡ entries_of (events ++ e ∷ [])
 entries_same events e none =
     ap (map short_entry) (sym (append-nil (journal events)) ∙ ap (λ (l : List JournalEntry). journal events ++ l) (sym none)
-        ∙ sym (journal-append events (e ∷ [])))
+    ∙ sym (journal-append events (e ∷ [])))
 
 count_same : (events : Record) (e : Event × ℕ) → ((n : ℕ) → kept_from n (e ∷ []) ≡ []) → admitted events ≡ admitted (events ++ e ∷ [])
 count_same events e none =
@@ -115,7 +115,7 @@ entry_with b = record { input = b.input; loader = b.loader; len = length b.point
 range_more : (a n : ℕ) → range_with_len a (n + 1) ≡ range_with_len a n ++ (a + n) ∷ []
 range_more a n =
     sym (map-id (range_with_len a (n + 1))) ∙ map-range_with_len_more (λ (k : ℕ). k) a n (a + n) refl
-        ∙ ap (λ (l : List ℕ). l ++ (a + n) ∷ []) (map-id (range_with_len a n))
+    ∙ ap (λ (l : List ℕ). l ++ (a + n) ∷ []) (map-id (range_with_len a n))
 
 numbers_more : (rows : List BatchRowValue) (number : ℕ) (b : KeptValue) → number ≡ length rows + 1
     → map (λ (r : BatchRowValue). r.number) rows ≡ range_with_len 1 (length rows)
@@ -212,7 +212,7 @@ module _ (rows : List Row) (kept : List KeptValue) (standings : List Standing) (
       record {
         rows_are = All-push (IsRowOf (length (kept ++ b ∷ []))) rows (Admits (length kept))
             (rows_later (length kept) (length (kept ++ b ∷ [])) rows (length_push kept b) book.rows_are)
-                (last_row (length kept) (length (kept ++ b ∷ [])) (length_push kept b));
+            (last_row (length kept) (length (kept ++ b ∷ [])) (length_push kept b));
         kept_are = ap kept_of is ∙ kept_more events b begins ∙ ap (λ (l : List KeptValue). l ++ b ∷ []) book.kept_are;
         full = All-push (λ (k : KeptValue). 1 ≤ length k.points) kept b book.full some;
         count_is = counted (length b.points) (book.count_is ∙ admitted_kept events ∙ ap length (sym (points_kept events)))
@@ -272,7 +272,7 @@ module _ (rows : List Row) (kept : List KeptValue) (standings : List Standing) (
       let at_place : slice_get (kept_of events) place ≡ Some b = ap (λ (l : List KeptValue). slice_get l place) book.kept_are ∙ there in
       let as_many : length entries ≡ length batches =
       ap length book.entries_are ∙ length-map (journal events) short_entry ∙ sym (ap length book.batches_are.entries)
-          ∙ length-map batches (entry_of_row events) in
+      ∙ length-map batches (entry_of_row events) in
       record {
         rows_are = All-push (IsRowOf (length kept)) rows (Publishes place) book.rows_are (slice_get_within kept place b there);
         kept_are = ap kept_of is ∙ kept_same events e (λ n. refl) ∙ book.kept_are;
@@ -284,7 +284,7 @@ module _ (rows : List Row) (kept : List KeptValue) (standings : List Standing) (
             ∙ ap (map short_entry) (sym (journal-append events (e ∷ []))) ∙ sym (ap entries_of is);
         batches_are = subst (λ (l : Record). AreBatchesOf l (batches ++ row ∷ [])) (sym is)
             (batches_more events batches place b number book.batches_are at_place (is_next ∙ ap (λ (n : ℕ). n + 1) as_many)
-                (all_apart place b number at_place out));
+            (all_apart place b number at_place out));
         placed = All-push (IsPlaced kept (set standings place Published)) batches row
             (All-weaker (IsPlaced kept standings) (IsPlaced kept (set standings place Published)) (placed_elsewhere Published place out) batches book.placed)
             record { place = place; batch = b; there = there; standing = get_set_same standings place Out Published out; first = refl; len = refl };
@@ -295,7 +295,7 @@ module _ (rows : List Row) (kept : List KeptValue) (standings : List Standing) (
           → All (λ (r : BatchRowValue). AreApart r (row_of number b)) batches
       all_apart place b number there out = All-weaker (IsPlaced kept standings) (λ (r : BatchRowValue). AreApart r (row_of number b))
           (λ r p. apart_at (events_of kept rows) p.place place p.batch b r number
-              (ap (λ (l : List KeptValue). slice_get l p.place) book.kept_are ∙ p.there) there
+          (ap (λ (l : List KeptValue). slice_get l p.place) book.kept_are ∙ p.there) there
           (out_is_not_published standings place p.place out p.standing) p.first p.len (cases_lt p.place place)) batches book.placed
 
   -- ---- a pass looks

@@ -1,9 +1,9 @@
 -- The batches that a record admitted: where it goes on, and where their items are.
-use Rattle.std.proofs.Common.{◌≡◌, ℕ, ◌+◌, ◌-◌, ◌<◌, ◌≤◌, ◌⊎◌, inl, inr, List, [], ◌∷◌, ◌++◌, length, take, drop, get_or, Some, ap, sym, ◌∙◌, refl, arith, length-append}
+use Rattle.std.proofs.Common.{◌≡◌, ℕ, ◌+◌, ◌<◌, ◌≤◌, ◌⊎◌, inl, inr, List, [], ◌∷◌, ◌++◌, length, take, drop, get_or, Some, ap, sym, ◌∙◌, refl, arith, length-append}
 use Rattle.std.specs.Prelude.{slice_get, suc, zero}
 use Rattle.std.specs.List.{flat_map}
-use Rattle.std.proofs.lemmas.List.{append-nil, drop-drop, drop_at, take_at, get_or-take, get_or-drop}
-use Rattle.std.proofs.lemmas.Option.{none-some, same_Some, slice_get-get_or, slice_get_within}
+use Rattle.std.proofs.lemmas.List.{drop-drop, drop_at, take_at, get_or-take, get_or-drop}
+use Rattle.std.proofs.lemmas.Option.{none-some, same_Some, slice_get-get_or}
 use Rattle.cube_math.specs.Points.{PointValue}
 use Rattle.record_model.specs.Admissions.{AdmissionValue, admissions_from, admitted, admitted_points}
 use Rattle.record_model.specs.Records.{Record}
@@ -100,7 +100,7 @@ pub part_at : (first : ℕ) (events : Record) (place : ℕ) (b : KeptValue) → 
 part_at first [] place b there = absurd (none-some b there)
 part_at first ((Admission input points, loader) ∷ events) zero b there =
     head first points (points_in (kept_from (first + length points) events)) b (ap (λ (x : KeptValue). x.first) (same_Some _ b there))
-        (ap (λ (x : KeptValue). x.points) (same_Some _ b there))
+    (ap (λ (x : KeptValue). x.points) (same_Some _ b there))
 part_at first ((Admission input points, loader) ∷ events) (suc place) b there =
     further first points (points_in (kept_from (first + length points) events)) b (part_at (first + length points) events place b there)
 part_at first ((Publication input points, loader) ∷ events) place b there = part_at first events place b there
@@ -144,7 +144,7 @@ covers first [] place b item there later low = absurd (none-some b there)
 covers first ((Admission input points, loader) ∷ events) zero b item there later low =
     let e : first + length points ≡ b.first + length b.points = ap (λ (x : KeptValue). x.first + length x.points) (same_Some _ b there) in
     at_head (first + length points) events (first_batch (first + length points) events) e
-        (omega (arith, low, length-append points (points_in (kept_from (first + length points) events)))) later
+    (omega (arith, low, length-append points (points_in (kept_from (first + length points) events)))) later
   where
     at_head : (next : ℕ) (rest : Record) → (kept_from next rest ≡ []) ⊎ ((c : KeptValue) × (slice_get (kept_from next rest) 0 ≡ Some c) × (c.first ≡ next))
         → next ≡ b.first + length b.points → item < next + length (points_in (kept_from next rest))
@@ -154,7 +154,7 @@ covers first ((Admission input points, loader) ∷ events) zero b item there lat
     at_head next rest (inr (c, there, begins)) e low later = omega (arith, later c there, begins, e)
 covers first ((Admission input points, loader) ∷ events) (suc place) b item there later low =
     covers (first + length points) events place b item there later
-        (omega (arith, low, length-append points (points_in (kept_from (first + length points) events))))
+    (omega (arith, low, length-append points (points_in (kept_from (first + length points) events))))
 covers first ((Publication input points, loader) ∷ events) place b item there later low = covers first events place b item there later low
 covers first ((Look, pass) ∷ events) place b item there later low = covers first events place b item there later low
 

@@ -1,5 +1,5 @@
 -- How the batch of an item is found among the admitted ones.
-use Rattle.std.proofs.Common.{◌≡◌, ℕ, ◌+◌, ◌-◌, ◌<◌, ◌≤◌, inl, inr, true, false, List, [], ◌∷◌, nat_le, length, get_or, Option, Some, None, ap, sym, subst, ◌∙◌, refl, arith}
+use Rattle.std.proofs.Common.{◌≡◌, ℕ, ◌+◌, ◌<◌, ◌≤◌, inl, inr, true, false, List, [], ◌∷◌, nat_le, length, get_or, Option, Some, None, ap, sym, subst, ◌∙◌, refl, arith}
 use Rattle.std.specs.Prelude.{IfSome, slice_get, suc}
 use Rattle.std.specs.List.{AllWithin}
 use Rattle.std.specs.List.Sorted.{IsNonDecreasingBy}
@@ -55,7 +55,7 @@ module _ (events : Record) (item : ℕ) (low : item < length (points_in (kept_of
       → IfSome (slice_get (kept_of events) place) (λ (b : KeptValue). (b.first ≤ item) × (item < b.first + length b.points))
   found_last place b at is_last begins = found place
       (λ c at_c. subst (λ (o : Option KeptValue). IfSome o (λ (x : KeptValue). x.first ≤ item)) at_c
-          (subst (λ (o : Option KeptValue). IfSome o (λ (x : KeptValue). x.first ≤ item)) (sym at) begins))
+      (subst (λ (o : Option KeptValue). IfSome o (λ (x : KeptValue). x.first ≤ item)) (sym at) begins))
       (λ c at_c. absurd (none-some c (sym (slice_get_past (kept_of events) (suc place) (omega (arith, is_last))) ∙ at_c)))
 
   module _ (begun : ℕ) (before : (k : ℕ) (b : KeptValue) → slice_get (kept_of events) k ≡ Some b → k < begun → b.first ≤ item)

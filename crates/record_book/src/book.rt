@@ -195,12 +195,7 @@ impl RecordBook {
     }
 
     /// A copy of a batch that is to be admitted next, by this loader.
-    pub fn keep(
-        &self,
-        alloc: Global,
-        batch: &Batch,
-        loader: u32,
-    ) -> Result<KeptBatch, AllocError>
+    pub fn keep(&self, alloc: Global, batch: &Batch, loader: u32) -> Result<KeptBatch, AllocError>
         requires { admitted self.now.events + length batch.now.points < 2 ^ 32 }
         ensures { IfOk result (λ kept. kept ≡ kept_as batch.now loader (admitted self.now.events)) }
     {

@@ -75,13 +75,36 @@ fn second_batch_is_published_first(rt: HostRuntime) -> Result<(), Fail> {
     assert_eq!(rt; admit(rt.alloc(), &mut book, &two, 1)?, 1);
     assert_eq!(rt; publish(&mut book, &two, 1, 2)?, 1);
     assert_eq!(rt; publish(&mut book, &one, 0, 0)?, 2);
-    let first = Entry { input: 7, loader: 1, len: 1 };
-    let second = Entry { input: 4, loader: 0, len: 2 };
+    let first = Entry {
+        input: 7,
+        loader: 1,
+        len: 1,
+    };
+    let second = Entry {
+        input: 4,
+        loader: 0,
+        len: 2,
+    };
     assert_eq!(rt; book.journal(), [first, second].as_slice());
-    let first = BatchRow { number: 1, input: 7, loader: 1, first: 2, len: 1 };
-    let second = BatchRow { number: 2, input: 4, loader: 0, first: 0, len: 2 };
+    let first = BatchRow {
+        number: 1,
+        input: 7,
+        loader: 1,
+        first: 2,
+        len: 1,
+    };
+    let second = BatchRow {
+        number: 2,
+        input: 4,
+        loader: 0,
+        first: 0,
+        len: 2,
+    };
     assert_eq!(rt; book.batches(), [first, second].as_slice());
-    assert_eq!(rt; published(rt.alloc(), &book)?.as_slice(), [3, 1, 2].as_slice());
+    assert_eq!(rt;
+        published(rt.alloc(), &book)?.as_slice(),
+        [3, 1, 2].as_slice()
+    );
     assert_eq!(rt; items(rt.alloc(), &book)?.as_slice(), [1, 2, 3].as_slice());
     Ok(())
 }
@@ -96,7 +119,10 @@ fn abandoned_points_stay_admitted(rt: HostRuntime) -> Result<(), Fail> {
     assert_eq!(rt; book.admitted(), 2);
     admit(rt.alloc(), &mut book, &two, 0)?;
     publish(&mut book, &two, 0, 2)?;
-    assert_eq!(rt; book.standings(), [Standing::Abandoned, Standing::Published].as_slice());
+    assert_eq!(rt;
+        book.standings(),
+        [Standing::Abandoned, Standing::Published].as_slice()
+    );
     assert_eq!(rt; published(rt.alloc(), &book)?.as_slice(), [3].as_slice());
     assert_eq!(rt; items(rt.alloc(), &book)?.as_slice(), [1, 2, 3].as_slice());
     Ok(())

@@ -1,5 +1,5 @@
-use Rattle.std.proofs.Common.{◌≡◌, ◌+◌, ◌<◌, ◌≤◌, Option, Some, true, length, get_or, sym, subst, ◌∙◌, arith}
-use Rattle.std.specs.Prelude.{IfSome, IsTrue, slice_get}
+use Rattle.std.proofs.Common.{◌≡◌, ◌+◌, ◌<◌, ◌≤◌, Option, length, get_or, subst, arith}
+use Rattle.std.specs.Prelude.{IfSome, IsTrue}
 use Rattle.std.proofs.lemmas.Option.{slice_get-get_or}
 use Rattle.record_book.specs.Books.{IsOut}
 use Rattle.record_book.specs.KeptBatches.{KeptValue, kept_as, kept_of}
@@ -17,7 +17,7 @@ returns-else-is_out-clause-none c place out =
     let kept = kept_of c.args.self.now.events in
     let at = slice_get-get_or kept c.place_of-place.result wanted c.place_of-place.ensures.place in
     let within = subst (λ (o : Option KeptValue). IfSome o
-        (λ (b : KeptValue). (b.first ≤ c.args.first) × (c.args.first < b.first + length b.points))) at c.place_of-place.ensures.item in
+    (λ (b : KeptValue). (b.first ≤ c.args.first) × (c.args.first < b.first + length b.points))) at c.place_of-place.ensures.item in
     let same : place ≡ c.place_of-place.result =
     one_place c.args.self.now.events c.place_of-place.result place (get_or kept c.place_of-place.result wanted) wanted at out.kept within.0 within.1
     (view_full c.self.inside _ c.self.invariant c.self.view_is place wanted out.kept) in

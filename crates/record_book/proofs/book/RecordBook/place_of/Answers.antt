@@ -1,7 +1,5 @@
-use Rattle.std.proofs.Common.{◌≡◌, ◌+◌, ◌-◌, ◌<◌, ◌≤◌, Some, length, refl, ap, sym, ◌∙◌, arith}
-use Rattle.std.specs.Prelude.{slice_get}
-use Rattle.std.proofs.lemmas.Option.{slice_get_read}
-use Rattle.record_book.specs.KeptBatches.{KeptValue, kept_of, points_in}
+use Rattle.std.proofs.Common.{◌≡◌, ◌-◌, length, ap, ◌∙◌, arith}
+use Rattle.record_book.specs.KeptBatches.{kept_of}
 use Rattle.record_book.proofs.KeptLaws.{admitted_kept}
 use Rattle.record_book.proofs.SearchLaws.{found_begun, found_last, some_batch, some_begun}
 use Rattle.record_book.proofs.ViewLaws.{view_batch, view_few_kept, view_kept}
@@ -43,7 +41,7 @@ returns-then-first-item-clause-item c =
 pub overflow_sub-result : goal.overflow_sub-result
 overflow_sub-result c =
     some_begun c.args.self.now.events c.args.item
-        (omega (arith, admitted_kept c.args.self.now.events, c.requires)) c.begun.result c.begun.ensures.before c.begun.ensures.behind
+    (omega (arith, admitted_kept c.args.self.now.events, c.requires)) c.begun.result c.begun.ensures.before c.begun.ensures.behind
 
 pub overflow_cast-result-2 : goal.overflow_cast-result-2
 overflow_cast-result-2 c =
@@ -53,7 +51,7 @@ overflow_cast-result-2 c =
 pub returns-clause-place : goal.returns-clause-place
 returns-clause-place c =
     let some = some_begun c.args.self.now.events c.args.item
-        (omega (arith, admitted_kept c.args.self.now.events, c.requires)) c.begun.result c.begun.ensures.before c.begun.ensures.behind in
+    (omega (arith, admitted_kept c.args.self.now.events, c.requires)) c.begun.result c.begun.ensures.before c.begun.ensures.behind in
     omega (arith, some, c.begun.ensures.within)
 
 pub returns-clause-item : goal.returns-clause-item
@@ -61,4 +59,4 @@ returns-clause-item c =
     let low = admitted_kept c.args.self.now.events in
     let some = some_begun c.args.self.now.events c.args.item (omega (arith, low, c.requires)) c.begun.result c.begun.ensures.before c.begun.ensures.behind in
     found_begun c.args.self.now.events c.args.item (omega (arith, low, c.requires)) c.begun.result c.begun.ensures.before c.begun.ensures.behind
-        (c.begun.result - 1) (omega (arith, some))
+    (c.begun.result - 1) (omega (arith, some))

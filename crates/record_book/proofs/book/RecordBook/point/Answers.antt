@@ -10,7 +10,7 @@ returns c =
     let there : slice_get (kept_of c.args.self.now.events) c.place_of.result ≡ Some c.index-batch.result.now =
     view_batch c.self.inside _ c.self.invariant c.self.view_is c.place_of.result c.index-batch.result.now c.place_of.ensures.place c.index-batch.ensures in
     let within = subst (λ (o : Option KeptValue). IfSome o
-        (λ (b : KeptValue). (b.first ≤ c.args.item) × (c.args.item < b.first + length b.points))) there c.place_of.ensures.item in
+    (λ (b : KeptValue). (b.first ≤ c.args.item) × (c.args.item < b.first + length b.points))) there c.place_of.ensures.item in
     point_there c.args.self.now.events c.place_of.result c.args.item
-        (c.args.item - c.first.result) c.index-batch.result.now c.deref.result.now.items c.index.result.now
+    (c.args.item - c.first.result) c.index-batch.result.now c.deref.result.now.items c.index.result.now
     there c.place_of.ensures.item ((λ i. (c.deref.ensures i).items) ∙ c.points.ensures) (omega (arith, c.first.ensures, within.0)) c.index.ensures

@@ -1,4 +1,4 @@
-use Rattle.std.proofs.Common.{◌≡◌, ◌+◌, ◌<◌, ◌≤◌, ℕ, List, [], ◌∷◌, ◌++◌, Some, length, ap, sym, refl, ◌∙◌, arith}
+use Rattle.std.proofs.Common.{◌≡◌, ◌+◌, ℕ, List, [], ◌∷◌, ◌++◌, Some, length, ap, sym, refl, ◌∙◌, arith}
 use Rattle.std.specs.Prelude.{slice_get}
 use Rattle.std.proofs.lemmas.Option.{slice_get-get_or}
 use Rattle.cube_math.specs.declared.config.Entry.{Entry}
@@ -10,7 +10,6 @@ use Rattle.record_book.specs.Books.{BookValue}
 use Rattle.record_book.specs.BookKept.{events_of}
 use Rattle.record_book.specs.KeptBatches.{KeptValue}
 use Rattle.record_book.specs.declared.row.Row.{Row}
-use Rattle.record_book.specs.declared.row.Row.TheVariants.{Publishes}
 use Rattle.record_book.specs.declared.row.Standing.TheVariants.{Out}
 use Rattle.record_book.proofs.BookLaws.{publication_events, same_book, with_publication}
 use Rattle.record_book.proofs.FactLaws.{entries_counted, fewer_entries}
@@ -20,7 +19,7 @@ use Rattle.record_book.proofs.book.RecordBook.publish.Goals as goal
 pub overflow_cast-number : goal.overflow_cast-number
 overflow_cast-number c =
     let out : slice_get c.self.inside.standings.items c.args.place ≡ Some Out =
-        ap (λ (b : BookValue). slice_get b.standings c.args.place) c.self.view_is ∙ c.requires.out in
+    ap (λ (b : BookValue). slice_get b.standings c.args.place) c.self.view_is ∙ c.requires.out in
     let fewer = fewer_entries _ _ _ _ _ _ c.self.invariant.book c.args.place out in
     let few = view_few_kept c.self.inside _ c.self.invariant c.self.view_is in
     omega (arith, fewer, few, c.self.invariant.small, c.self.inside.entries.ok.0, c.len.ensures)
@@ -28,7 +27,7 @@ overflow_cast-number c =
 pub overflow_add-number : goal.overflow_add-number
 overflow_add-number c =
     let out : slice_get c.self.inside.standings.items c.args.place ≡ Some Out =
-        ap (λ (b : BookValue). slice_get b.standings c.args.place) c.self.view_is ∙ c.requires.out in
+    ap (λ (b : BookValue). slice_get b.standings c.args.place) c.self.view_is ∙ c.requires.out in
     let fewer = fewer_entries _ _ _ _ _ _ c.self.invariant.book c.args.place out in
     let few = view_few_kept c.self.inside _ c.self.invariant c.self.view_is in
     omega (arith, fewer, few, c.self.invariant.small, c.self.inside.entries.ok.0, c.len.ensures)
@@ -48,7 +47,7 @@ invariant_of-self c =
     let I = c.self.inside in
     let b : KeptValue = c.index-batch.result.now in
     let out : slice_get I.standings.items c.args.place ≡ Some Out =
-        ap (λ (v : BookValue). slice_get v.standings c.args.place) c.self.view_is ∙ c.requires.out in
+    ap (λ (v : BookValue). slice_get v.standings c.args.place) c.self.view_is ∙ c.requires.out in
     let low = view_place c.self.inside _ c.self.invariant c.self.view_is c.args.place c.requires.out in
     let there : slice_get I.kept.items c.args.place ≡ Some b = slice_get-get_or I.kept.items c.args.place b low ∙ ap Some (sym c.index-batch.ensures) in
     let next : c.len.result + 1 ≡ length I.entries.items + 1 = ap (λ (n : ℕ). n + 1) (c.len.ensures ∙ I.entries.ok.0) in

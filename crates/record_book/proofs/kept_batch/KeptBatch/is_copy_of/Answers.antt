@@ -1,10 +1,10 @@
-use Rattle.std.proofs.Common.{◌≡◌, ℕ, List, Bool, true, false, ◌&&◌, ap, sym, subst, refl, ◌∙◌}
+use Rattle.std.proofs.Common.{◌≡◌, Bool, true, false, ◌&&◌, ap, sym, subst, refl, ◌∙◌}
 use Rattle.std.specs.Bool.{Decides}
 use Rattle.std.proofs.lemmas.Bool.Decides.{Decides-eqb, Decides-int_eq}
 use Rattle.std.proofs.lemmas.Slice.Eq.{slice_eq-Decides}
 use Rattle.cube_math.specs.Points.{PointValue}
 use Rattle.cube_math.specs.contracts.point.PointPartialEq.TheImpl.{eq-value}
-use Rattle.record_book.specs.KeptBatches.{KeptValue, kept_as}
+use Rattle.record_book.specs.KeptBatches.{KeptValue}
 use Rattle.record_book.proofs.kept_batch.KeptBatch.is_copy_of.Goals as goal
 
 all_four : (p q r s : Bool) → (p && (q && (r && s))) ≡ true → (p ≡ true) × (q ≡ true) × (r ≡ true) × (s ≡ true)
@@ -35,11 +35,12 @@ pub returns : goal.returns
 returns c =
     let same = slice_eq-Decides point_eq c.as_slice.result.now c.points.result.now c.eq.result c.eq.ensures in
     let own : c.as_slice.result.now ≡ c.self.inside.points.value.items = c.as_slice.ensures.value ∙ (λ i. (c.deref.ensures i).items) in
-    let input : c.self.inside.input ≡ c.args.batch.now.input = c.if-self-input.false ∙ c.input.ensures in
-    (λ told. sym c.self.view_is ∙ (λ i. record {
-      input = input i;
-      loader = c.if-self-loader.false i;
-      first = c.if-self-first.false i;
-      points = (sym own ∙ same.0 told ∙ c.points.ensures.value) i;
-    }),
-    λ e. same.1 (own ∙ ap (λ (k : KeptValue). k.points) (c.self.view_is ∙ e) ∙ sym c.points.ensures.value))
+    let input : c.self.inside.input ≡ c.args.batch.now.input = c.if-self-input.false ∙ c.input.ensures in (
+      λ told. sym c.self.view_is ∙ (λ i. record {
+        input = input i;
+        loader = c.if-self-loader.false i;
+        first = c.if-self-first.false i;
+        points = (sym own ∙ same.0 told ∙ c.points.ensures.value) i;
+      }),
+      λ e. same.1 (own ∙ ap (λ (k : KeptValue). k.points) (c.self.view_is ∙ e) ∙ sym c.points.ensures.value),
+    )

@@ -12,7 +12,7 @@ use Rattle.std.proofs.lemmas.Option.{slice_get_within}
 use Rattle.cube_math.specs.Points.{PointValue}
 use Rattle.cube_math.specs.declared.config.Entry.{Entry}
 use Rattle.record_model.specs.Admissions.{admitted, admitted_points}
-use Rattle.record_model.specs.Records.{Record, JournalEntry, entry_of, journal}
+use Rattle.record_model.specs.Records.{Record, JournalEntry, journal}
 use Rattle.record_model.specs.declared.event.Event.{Event}
 use Rattle.record_model.specs.declared.event.Event.TheVariants.{Admission, Look, Publication}
 use Rattle.record_model.proofs.RecordLaws.{journal-append}

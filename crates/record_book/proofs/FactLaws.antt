@@ -1,20 +1,19 @@
 -- What a book says of its record.
-use Rattle.std.proofs.Common.{◌≡◌, ℕ, ◌+◌, ◌-◌, ◌<◌, ◌≤◌, ◌^◌, List, [], ◌∷◌, ◌++◌, All, map, take, length, get_or, count_by, Option, Some, None, ap, sym, ◌∙◌, refl, arith, length-append}
+use Rattle.std.proofs.Common.{◌≡◌, ℕ, ◌+◌, ◌<◌, ◌≤◌, List, [], ◌∷◌, ◌++◌, All, take, length, get_or, count_by, Option, Some, None, ap, sym, ◌∙◌, refl, arith, length-append}
 use Rattle.std.specs.Prelude.{slice_get}
 use Rattle.std.proofs.lemmas.List.{append-nil, length-map, map_more}
 use Rattle.std.proofs.lemmas.List.Elements.{All-head, All-nil, All-tail}
 use Rattle.std.proofs.lemmas.List.Sums.{count_by-le-length}
-use Rattle.cube_math.specs.Points.{PointValue}
 use Rattle.cube_math.specs.declared.config.Entry.{Entry}
-use Rattle.record_model.specs.Records.{Record, journal, published}
+use Rattle.record_model.specs.Records.{journal, published}
 use Rattle.record_model.proofs.RecordLaws.{published-append}
-use Rattle.version_rows.specs.Journals.{AreApart, HasAdmission, entry_of_row}
+use Rattle.version_rows.specs.Journals.{entry_of_row}
 use Rattle.version_rows.specs.Versions.{BatchRowValue}
 use Rattle.record_book.specs.Books.{short_entry}
 use Rattle.record_book.specs.BookKept.{IsBook, IsPlaced, IsRowOf, admission_of, event_of_row, events_of, is_published, publication_of}
-use Rattle.record_book.specs.KeptBatches.{KeptValue, kept_of, points_in}
+use Rattle.record_book.specs.KeptBatches.{KeptValue, points_in}
 use Rattle.record_book.specs.declared.row.Row.{Row}
-use Rattle.record_book.specs.declared.row.Row.TheVariants.{Admits, Looks, Publishes}
+use Rattle.record_book.specs.declared.row.Row.TheVariants.{Admits, Publishes}
 use Rattle.record_book.specs.declared.row.Standing.{Standing}
 use Rattle.record_book.specs.declared.row.Standing.TheVariants.{Out}
 use Rattle.record_book.proofs.KeptLaws.{admitted_kept}

@@ -1,9 +1,9 @@
 -- The batches that a record admitted: where it goes on, and where their items are.
-use Rattle.std.proofs.Common.{◌≡◌, ℕ, ◌+◌, ◌-◌, ◌<◌, ◌≤◌, ◌⊎◌, inl, inr, List, [], ◌∷◌, ◌++◌, length, take, drop, get_or, Some, ap, sym, ◌∙◌, refl, arith, length-append}
+use Rattle.std.proofs.Common.{◌≡◌, ℕ, ◌+◌, ◌<◌, ◌≤◌, ◌⊎◌, inl, inr, List, [], ◌∷◌, ◌++◌, length, take, drop, get_or, Some, ap, sym, ◌∙◌, refl, arith, length-append}
 use Rattle.std.specs.Prelude.{slice_get, suc, zero}
 use Rattle.std.specs.List.{flat_map}
-use Rattle.std.proofs.lemmas.List.{append-nil, drop-drop, drop_at, take_at, get_or-take, get_or-drop}
-use Rattle.std.proofs.lemmas.Option.{none-some, same_Some, slice_get-get_or, slice_get_within}
+use Rattle.std.proofs.lemmas.List.{drop-drop, drop_at, take_at, get_or-take, get_or-drop}
+use Rattle.std.proofs.lemmas.Option.{none-some, same_Some, slice_get-get_or}
 use Rattle.cube_math.specs.Points.{PointValue}
 use Rattle.record_model.specs.Admissions.{AdmissionValue, admissions_from, admitted, admitted_points}
 use Rattle.record_model.specs.Records.{Record}

@@ -1,5 +1,5 @@
 -- How the batch of an item is found among the admitted ones.
-use Rattle.std.proofs.Common.{◌≡◌, ℕ, ◌+◌, ◌-◌, ◌<◌, ◌≤◌, inl, inr, true, false, List, [], ◌∷◌, nat_le, length, get_or, Option, Some, None, ap, sym, subst, ◌∙◌, refl, arith}
+use Rattle.std.proofs.Common.{◌≡◌, ℕ, ◌+◌, ◌<◌, ◌≤◌, inl, inr, true, false, List, [], ◌∷◌, nat_le, length, get_or, Option, Some, None, ap, sym, subst, ◌∙◌, refl, arith}
 use Rattle.std.specs.Prelude.{IfSome, slice_get, suc}
 use Rattle.std.specs.List.{AllWithin}
 use Rattle.std.specs.List.Sorted.{IsNonDecreasingBy}

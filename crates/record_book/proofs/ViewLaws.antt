@@ -1,17 +1,11 @@
 -- What a book keeps, by what contracts see of it.
-use Rattle.std.proofs.Common.{◌≡◌, ℕ, ◌+◌, ◌<◌, ◌≤◌, List, [], ◌∷◌, ◌++◌, All, length, get_or, Some, ap, sym, subst, ◌∙◌, arith}
-use Rattle.std.specs.Prelude.{slice_get, suc}
+use Rattle.std.proofs.Common.{◌≡◌, ℕ, ◌<◌, ◌≤◌, List, length, get_or, Some, ap, sym, subst, ◌∙◌, arith}
+use Rattle.std.specs.Prelude.{slice_get}
 use Rattle.std.proofs.lemmas.Option.{get_or_from_slice_get, slice_get-get_or, slice_get_within}
-use Rattle.cube_math.specs.Points.{PointValue}
-use Rattle.cube_math.specs.declared.config.Entry.{Entry}
-use Rattle.record_model.specs.Admissions.{admitted, admitted_points}
-use Rattle.record_model.specs.Records.{Record, journal}
-use Rattle.version_rows.specs.Journals.{AreBatchesOf}
-use Rattle.record_book.specs.Books.{BookValue, entries_of}
-use Rattle.record_book.specs.BookKept.{IsKept, IsRowOf, book_of}
-use Rattle.record_book.specs.KeptBatches.{KeptValue, kept_of, points_in}
-use Rattle.record_book.specs.declared.row.Row.{Row}
-use Rattle.record_book.specs.declared.row.Standing.{Standing}
+use Rattle.record_model.specs.Admissions.{admitted}
+use Rattle.record_book.specs.Books.{BookValue}
+use Rattle.record_book.specs.BookKept.{IsKept, book_of}
+use Rattle.record_book.specs.KeptBatches.{KeptValue, kept_of}
 use Rattle.record_book.specs.declared.row.Standing.TheVariants.{Out}
 use Rattle.record_book.specs.declared.book.RecordBook.TheInside.{Inside}
 use Rattle.record_book.proofs.FactLaws.{few_entries, few_kept}

@@ -1,12 +1,10 @@
-use Rattle.std.proofs.Common.{◌≡◌, ◌+◌, ◌<◌, ◌≤◌, ℕ, List, [], ◌∷◌, ◌++◌, length, ap, sym, refl, ◌∙◌, arith}
-use Rattle.record_model.specs.Records.{Record}
+use Rattle.std.proofs.Common.{◌≡◌, ◌+◌, ◌≤◌, ℕ, List, [], ◌∷◌, ◌++◌, length, ap, sym, refl, ◌∙◌, arith}
 use Rattle.record_model.specs.declared.event.Event.TheVariants.{Admission}
 use Rattle.record_book.specs.Books.{BookValue}
 use Rattle.record_book.specs.BookKept.{events_of}
 use Rattle.record_book.specs.KeptBatches.{KeptValue}
 use Rattle.record_book.specs.declared.row.Row.{Row}
 use Rattle.record_book.specs.declared.row.Row.TheVariants.{Admits}
-use Rattle.record_book.specs.declared.row.Standing.{Standing}
 use Rattle.record_book.proofs.BookLaws.{admission_events, same_book, with_admission}
 use Rattle.record_book.proofs.ViewLaws.{view_count, view_few_kept}
 use Rattle.record_book.proofs.book.RecordBook.admit.Goals as goal

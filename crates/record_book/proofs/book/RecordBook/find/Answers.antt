@@ -1,5 +1,5 @@
-use Rattle.std.proofs.Common.{◌≡◌, ◌+◌, ◌<◌, ◌≤◌, Option, Some, true, length, get_or, sym, subst, ◌∙◌, arith}
-use Rattle.std.specs.Prelude.{IfSome, IsTrue, slice_get}
+use Rattle.std.proofs.Common.{◌≡◌, ◌+◌, ◌<◌, ◌≤◌, Option, length, get_or, subst, arith}
+use Rattle.std.specs.Prelude.{IfSome, IsTrue}
 use Rattle.std.proofs.lemmas.Option.{slice_get-get_or}
 use Rattle.record_book.specs.Books.{IsOut}
 use Rattle.record_book.specs.KeptBatches.{KeptValue, kept_as, kept_of}

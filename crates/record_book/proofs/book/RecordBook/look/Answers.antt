@@ -1,4 +1,4 @@
-use Rattle.std.proofs.Common.{◌≡◌, List, [], ◌∷◌, ◌++◌, sym, subst}
+use Rattle.std.proofs.Common.{List, sym, subst}
 use Rattle.record_book.specs.BookKept.{IsBook}
 use Rattle.record_book.specs.declared.row.Row.{Row}
 use Rattle.record_book.proofs.BookLaws.{with_look}

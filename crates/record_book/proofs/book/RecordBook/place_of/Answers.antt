@@ -1,7 +1,5 @@
-use Rattle.std.proofs.Common.{◌≡◌, ◌+◌, ◌-◌, ◌<◌, ◌≤◌, Some, length, refl, ap, sym, ◌∙◌, arith}
-use Rattle.std.specs.Prelude.{slice_get}
-use Rattle.std.proofs.lemmas.Option.{slice_get_read}
-use Rattle.record_book.specs.KeptBatches.{KeptValue, kept_of, points_in}
+use Rattle.std.proofs.Common.{◌≡◌, ◌-◌, length, ap, ◌∙◌, arith}
+use Rattle.record_book.specs.KeptBatches.{kept_of}
 use Rattle.record_book.proofs.KeptLaws.{admitted_kept}
 use Rattle.record_book.proofs.SearchLaws.{found_begun, found_last, some_batch, some_begun}
 use Rattle.record_book.proofs.ViewLaws.{view_batch, view_few_kept, view_kept}

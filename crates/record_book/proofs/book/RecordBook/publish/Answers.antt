@@ -1,4 +1,4 @@
-use Rattle.std.proofs.Common.{◌≡◌, ◌+◌, ◌<◌, ◌≤◌, ℕ, List, [], ◌∷◌, ◌++◌, Some, length, ap, sym, refl, ◌∙◌, arith}
+use Rattle.std.proofs.Common.{◌≡◌, ◌+◌, ℕ, List, [], ◌∷◌, ◌++◌, Some, length, ap, sym, refl, ◌∙◌, arith}
 use Rattle.std.specs.Prelude.{slice_get}
 use Rattle.std.proofs.lemmas.Option.{slice_get-get_or}
 use Rattle.cube_math.specs.declared.config.Entry.{Entry}
@@ -10,7 +10,6 @@ use Rattle.record_book.specs.Books.{BookValue}
 use Rattle.record_book.specs.BookKept.{events_of}
 use Rattle.record_book.specs.KeptBatches.{KeptValue}
 use Rattle.record_book.specs.declared.row.Row.{Row}
-use Rattle.record_book.specs.declared.row.Row.TheVariants.{Publishes}
 use Rattle.record_book.specs.declared.row.Standing.TheVariants.{Out}
 use Rattle.record_book.proofs.BookLaws.{publication_events, same_book, with_publication}
 use Rattle.record_book.proofs.FactLaws.{entries_counted, fewer_entries}

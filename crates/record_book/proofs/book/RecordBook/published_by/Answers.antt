@@ -2,7 +2,7 @@ use Rattle.std.proofs.Common.{◌≡◌, ◌<◌, Some, length, [], ◌∷◌, a
 use Rattle.std.specs.Prelude.{slice_get}
 use Rattle.record_model.specs.Records.{published}
 use Rattle.record_book.specs.BookKept.{IsRowOf, event_of_row}
-use Rattle.record_book.specs.KeptBatches.{KeptValue, kept_of}
+use Rattle.record_book.specs.KeptBatches.{kept_of}
 use Rattle.record_book.specs.declared.row.Row.{Row}
 use Rattle.record_book.proofs.FactLaws.{publishes-some}
 use Rattle.record_book.proofs.ViewLaws.{view_batch}

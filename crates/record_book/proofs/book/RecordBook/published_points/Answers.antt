@@ -1,4 +1,4 @@
-use Rattle.std.proofs.Common.{◌≡◌, ◌+◌, ◌<◌, List, [], ◌∷◌, ◌++◌, take, length, get_or, ap, sym, ◌∙◌, arith}
+use Rattle.std.proofs.Common.{List, ◌++◌, take, ap, sym, ◌∙◌}
 use Rattle.cube_math.specs.Points.{PointValue}
 use Rattle.record_model.specs.Records.{published}
 use Rattle.record_book.specs.BookKept.{events_of}

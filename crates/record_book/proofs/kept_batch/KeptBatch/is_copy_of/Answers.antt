@@ -1,10 +1,10 @@
-use Rattle.std.proofs.Common.{◌≡◌, ℕ, List, Bool, true, false, ◌&&◌, ap, sym, subst, refl, ◌∙◌}
+use Rattle.std.proofs.Common.{◌≡◌, Bool, true, false, ◌&&◌, ap, sym, subst, refl, ◌∙◌}
 use Rattle.std.specs.Bool.{Decides}
 use Rattle.std.proofs.lemmas.Bool.Decides.{Decides-eqb, Decides-int_eq}
 use Rattle.std.proofs.lemmas.Slice.Eq.{slice_eq-Decides}
 use Rattle.cube_math.specs.Points.{PointValue}
 use Rattle.cube_math.specs.contracts.point.PointPartialEq.TheImpl.{eq-value}
-use Rattle.record_book.specs.KeptBatches.{KeptValue, kept_as}
+use Rattle.record_book.specs.KeptBatches.{KeptValue}
 use Rattle.record_book.proofs.kept_batch.KeptBatch.is_copy_of.Goals as goal
 
 all_four : (p q r s : Bool) → (p && (q && (r && s))) ≡ true → (p ≡ true) × (q ≡ true) × (r ≡ true) × (s ≡ true)

@@ -29,15 +29,20 @@ pub record IsFirst (cube : CubeValue) (g : ℕ) (p : PointValue) : Type 0 where
 pub contained_above : (cube : CubeValue) (path : List ℕ) (p : PointValue) → IsWay cube path → contains (cube_at cube path) p ≡ true → contains cube p ≡ true
 contained_above cube [] p way e = e
 contained_above cube (g ∷ path) p way e =
-    (and_parts _ _ (sym (child_has cube p g (omega (arith, way.fits)) (first_octant cube g path way)) ∙ contained_above (child cube g) path p (way_on cube g path way) e)).0
+    (and_parts _ _ (sym (child_has cube p g (omega (arith, way.fits)) (first_octant cube g path way))
+        ∙ contained_above (child cube g) path p (way_on cube g path way) e)).0
 
-pub first_step : (cube : CubeValue) (g : ℕ) (path : List ℕ) (p : PointValue) → IsWay cube (g ∷ path) → contains (cube_at cube (g ∷ path)) p ≡ true → IsFirst cube g p
+pub first_step : (cube : CubeValue) (g : ℕ) (path : List ℕ) (p : PointValue) → IsWay cube (g ∷ path)
+    → contains (cube_at cube (g ∷ path)) p ≡ true → IsFirst cube g p
 first_step cube g path p way e =
-    let both : (contains cube p ≡ true) × (_ ≡ true) = and_parts _ _ (sym (child_has cube p g (omega (arith, way.fits)) (first_octant cube g path way)) ∙ contained_above (child cube g) path p (way_on cube g path way) e) in
+    let both : (contains cube p ≡ true) × (_ ≡ true) =
+        and_parts _ _ (sym (child_has cube p g (omega (arith, way.fits)) (first_octant cube g path way))
+        ∙ contained_above (child cube g) path p (way_on cube g path way) e) in
     record { contained = both.0; octant = eqb-true _ _ both.1 }
 
 -- of two paths whose cubes contain a point the longer one goes on from the other
-pub goes_on : (cube : CubeValue) (path other : List ℕ) (p : PointValue) → IsWay cube path → IsWay cube other → contains (cube_at cube path) p ≡ true → contains (cube_at cube other) p ≡ true
+pub goes_on : (cube : CubeValue) (path other : List ℕ) (p : PointValue) → IsWay cube path → IsWay cube other
+    → contains (cube_at cube path) p ≡ true → contains (cube_at cube other) p ≡ true
     → length path ≤ length other → GoesOn path other
 goes_on cube [] other p way way' e e' le = record { rest = other; is = refl }
 goes_on cube (g ∷ path) [] p way way' e e' le = absurd (omega arith)
@@ -50,7 +55,8 @@ goes_on cube (g ∷ path) (h ∷ other) p way way' e e' le =
     record { rest = further.rest; is = ap (λ k. k ∷ other) same ∙ ap (λ (q : List ℕ). g ∷ q) further.is }
 
 -- two paths of one length whose cubes contain a point are one
-pub same_path : (cube : CubeValue) (path other : List ℕ) (p : PointValue) → IsWay cube path → IsWay cube other → contains (cube_at cube path) p ≡ true → contains (cube_at cube other) p ≡ true
+pub same_path : (cube : CubeValue) (path other : List ℕ) (p : PointValue) → IsWay cube path → IsWay cube other
+    → contains (cube_at cube path) p ≡ true → contains (cube_at cube other) p ≡ true
     → length path ≡ length other → path ≡ other
 same_path cube path other p way way' e e' len =
     let on : GoesOn path other = goes_on cube path other p way way' e e' (omega (arith, len)) in

@@ -23,16 +23,19 @@ use Rattle.leaf_shape.proofs.CubeLaws.{IsWay, goes_on}
 children_of : ℕ → CubeValue → List PointValue → List Counts
 children_of leaf c ps = map (λ g. counts_of leaf (child c g) ps) (up_to 8)
 
-node_of_child : (leaf : ℕ) (c : CubeValue) (ps : List PointValue) (g : ℕ) (path : List ℕ) → IsSplit leaf c ps → g < 8 → node_at (counts_of leaf c ps) (g ∷ path) ≡ node_at (counts_of leaf (child c g) ps) path
+node_of_child : (leaf : ℕ) (c : CubeValue) (ps : List PointValue) (g : ℕ) (path : List ℕ) → IsSplit leaf c ps → g < 8
+    → node_at (counts_of leaf c ps) (g ∷ path) ≡ node_at (counts_of leaf (child c g) ps) path
 unfolding children_of
 node_of_child leaf c ps g path s low =
     node_below _ _ g (children_of leaf c ps) path (counts_of leaf (child c g) ps) (counts.is_inner leaf c ps s.more s.high)
     (slice_get_read (children_of leaf c ps) 8 g _ (sym (eight_children leaf c ps)) low (sym (child_counts leaf c ps g _ low)))
 
-no_node_of_child : (leaf : ℕ) (c : CubeValue) (ps : List PointValue) (g : ℕ) (path : List ℕ) → IsSplit leaf c ps → 8 ≤ g → node_at (counts_of leaf c ps) (g ∷ path) ≡ None
+no_node_of_child : (leaf : ℕ) (c : CubeValue) (ps : List PointValue) (g : ℕ) (path : List ℕ) → IsSplit leaf c ps
+    → 8 ≤ g → node_at (counts_of leaf c ps) (g ∷ path) ≡ None
 unfolding children_of
 no_node_of_child leaf c ps g path s past =
-    no_node_below _ _ g (children_of leaf c ps) path (counts.is_inner leaf c ps s.more s.high) (slice_get_past (children_of leaf c ps) g (omega (arith, eight_children leaf c ps)))
+    no_node_below _ _ g (children_of leaf c ps) path (counts.is_inner leaf c ps s.more s.high)
+    (slice_get_past (children_of leaf c ps) g (omega (arith, eight_children leaf c ps)))
 
 none_is : {X : Type 0} (x : X) → None ≡ Some x → ⊥
 none_is x e = cc
@@ -41,17 +44,20 @@ false_is : false ≡ true → ⊥
 false_is e = cc
 
 -- the path of a node has octants
-octants_of_node : (path : List ℕ) (leaf : ℕ) (c : CubeValue) (ps : List PointValue) (node : NodeValue) → node_at (counts_of leaf c ps) path ≡ Some node → All (λ g. g < 8) path
+octants_of_node : (path : List ℕ) (leaf : ℕ) (c : CubeValue) (ps : List PointValue) (node : NodeValue)
+    → node_at (counts_of leaf c ps) path ≡ Some node → All (λ g. g < 8) path
 octants_of_node [] leaf c ps node e = All-nil (λ g. g < 8)
 octants_of_node (g ∷ path) leaf c ps node e = of_role (leaf_or_split leaf c ps) (cases_lt g 8)
   where
     of_role : IsLeafHere leaf c ps ⊎ IsSplit leaf c ps → (g < 8) ⊎ (8 ≤ g) → All (λ k. k < 8) (g ∷ path)
     of_role (inl here) low = absurd (none_is node (sym (none_below_leaf _ _ g path (counts.is_leaf leaf c ps here)) ∙ e))
-    of_role (inr s) (inl low) = All-cons (λ k. k < 8) g path low (octants_of_node path leaf (child c g) ps node (sym (node_of_child leaf c ps g path s low) ∙ e))
+    of_role (inr s) (inl low) = All-cons (λ k. k < 8) g path low
+        (octants_of_node path leaf (child c g) ps node (sym (node_of_child leaf c ps g path s low) ∙ e))
     of_role (inr s) (inr past) = absurd (none_is node (sym (no_node_of_child leaf c ps g path s past) ∙ e))
 
 -- below a leaf no node stands
-none_below : (path : List ℕ) (leaf : ℕ) (c : CubeValue) (ps : List PointValue) (h : ℕ) (rest : List ℕ) → is_leaf_at (counts_of leaf c ps) path ≡ true → node_at (counts_of leaf c ps) (path ++ h ∷ rest) ≡ None
+none_below : (path : List ℕ) (leaf : ℕ) (c : CubeValue) (ps : List PointValue) (h : ℕ) (rest : List ℕ)
+    → is_leaf_at (counts_of leaf c ps) path ≡ true → node_at (counts_of leaf c ps) (path ++ h ∷ rest) ≡ None
 none_below [] leaf c ps h rest e = of_role (leaf_or_split leaf c ps)
   where
     of_role : IsLeafHere leaf c ps ⊎ IsSplit leaf c ps → node_at (counts_of leaf c ps) (h ∷ rest) ≡ None
@@ -61,7 +67,8 @@ none_below (g ∷ path) leaf c ps h rest e = of_role (leaf_or_split leaf c ps) (
   where
     of_role : IsLeafHere leaf c ps ⊎ IsSplit leaf c ps → (g < 8) ⊎ (8 ≤ g) → node_at (counts_of leaf c ps) (g ∷ path ++ h ∷ rest) ≡ None
     of_role (inl here) low = absurd (false_is (sym (no_leaf_below leaf c ps g path here) ∙ e))
-    of_role (inr s) (inl low) = node_of_child leaf c ps g (path ++ h ∷ rest) s low ∙ none_below path leaf (child c g) ps h rest (sym (leaf_below leaf c ps g path s low) ∙ e)
+    of_role (inr s) (inl low) = node_of_child leaf c ps g (path ++ h ∷ rest) s low
+        ∙ none_below path leaf (child c g) ps h rest (sym (leaf_below leaf c ps g path s low) ∙ e)
     of_role (inr s) (inr past) = no_node_of_child leaf c ps g (path ++ h ∷ rest) s past
 
 -- a point of a cube lies in the cube of a leaf
@@ -72,9 +79,12 @@ record HasLeaf (leaf : ℕ) (c : CubeValue) (ps : List PointValue) (p : PointVal
   contained : contains (cube_at c path) p ≡ true
 
 leaf_at_root : (leaf : ℕ) (c : CubeValue) (ps : List PointValue) (p : PointValue) → IsLeafHere leaf c ps → contains c p ≡ true → HasLeaf leaf c ps p
-leaf_at_root leaf c ps p here has = record { path = []; way = record { octants = All-nil (λ g. g < 8); fits = omega arith }; ends = leaf_here leaf c ps here; contained = has }
+leaf_at_root leaf c ps p here has =
+    let way : IsWay c [] = record { octants = All-nil (λ g. g < 8); fits = omega arith } in
+    record { path = []; way = way; ends = leaf_here leaf c ps here; contained = has }
 
-leaf_of_child : (leaf : ℕ) (c : CubeValue) (ps : List PointValue) (p : PointValue) (g : ℕ) → IsSplit leaf c ps → g < 8 → HasLeaf leaf (child c g) ps p → HasLeaf leaf c ps p
+leaf_of_child : (leaf : ℕ) (c : CubeValue) (ps : List PointValue) (p : PointValue) (g : ℕ) → IsSplit leaf c ps → g < 8
+    → HasLeaf leaf (child c g) ps p → HasLeaf leaf c ps p
 leaf_of_child leaf c ps p g s low l = record {
   path = g ∷ l.path;
   way = record { octants = All-cons (λ k. k < 8) g l.path low l.way.octants; fits = omega (arith, l.way.fits, s.high) };
@@ -92,15 +102,19 @@ has_leaf (suc n) leaf c ps p le has = of_role (leaf_or_split leaf c ps)
         let some : 0 < c.bits = omega (arith, s.high) in
         let low : octant c p < 8 = octant_below c p some has in
         leaf_of_child leaf c ps p (octant c p) s low
-        (has_leaf n leaf (child c (octant c p)) ps p (omega (arith, le)) (child_has c p (octant c p) some low ∙ and_from _ _ has (eq-eqb (octant c p) (octant c p) refl)))
+        (has_leaf n leaf (child c (octant c p)) ps p (omega (arith, le)) (child_has c p (octant c p) some low
+            ∙ and_from _ _ has (eq-eqb (octant c p) (octant c p) refl)))
 
 -- the list of a point is that of its leaf
-pub leaf_has_list : (leaf : ℕ) (c : CubeValue) (ps : List PointValue) (paths : List (List ℕ)) (p : PointValue) (list : ℕ) → 7 ≤ c.bits → contains c p ≡ true
+pub leaf_has_list : (leaf : ℕ) (c : CubeValue) (ps : List PointValue) (paths : List (List ℕ)) (p : PointValue) (list : ℕ)
+    → 7 ≤ c.bits → contains c p ≡ true
     → ((path : List ℕ) → is_leaf_at (counts_of leaf c ps) path ≡ true → Contains paths path)
     → All (λ path. IsSome (node_at (counts_of leaf c ps) path)) paths → IsListOf c paths p list → is_leaf_at (counts_of leaf c ps) (path_of paths list) ≡ true
 leaf_has_list leaf c ps paths p list seven has leaves nodes l = of_leaf (has_leaf c.bits leaf c ps p (omega arith) has)
   where
-    node_there : (path : List ℕ) (o : Option NodeValue) → node_at (counts_of leaf c ps) path ≡ o → IsSome (node_at (counts_of leaf c ps) path) → (node : NodeValue) × (node_at (counts_of leaf c ps) path ≡ Some node)
+    node_there : (path : List ℕ) (o : Option NodeValue) → node_at (counts_of leaf c ps) path ≡ o
+        → IsSome (node_at (counts_of leaf c ps) path)
+        → (node : NodeValue) × (node_at (counts_of leaf c ps) path ≡ Some node)
     node_there path None is some = absurd (false_is (sym (ap (λ (o : Option NodeValue). is_some o) is) ∙ some))
     node_there path (Some node) is some = (node, is)
 
@@ -114,9 +128,12 @@ leaf_has_list leaf c ps paths p list seven has leaves nodes l = of_leaf (has_lea
       fits = omega (arith, fits (path_of paths list) leaf c ps node_of_list.0 seven node_of_list.1);
     }
 
-    by_rest : (path rest : List ℕ) → is_leaf_at (counts_of leaf c ps) path ≡ true → path_of paths list ≡ path ++ rest → is_leaf_at (counts_of leaf c ps) (path_of paths list) ≡ true
+    by_rest : (path rest : List ℕ) → is_leaf_at (counts_of leaf c ps) path ≡ true → path_of paths list ≡ path ++ rest
+        → is_leaf_at (counts_of leaf c ps) (path_of paths list) ≡ true
     by_rest path [] ends is = ap (is_leaf_at (counts_of leaf c ps)) (is ∙ append-nil path) ∙ ends
-    by_rest path (h ∷ rest) ends is = absurd (none_is node_of_list.0 (sym (none_below path leaf c ps h rest ends) ∙ ap (node_at (counts_of leaf c ps)) (sym is) ∙ node_of_list.1))
+    by_rest path (h ∷ rest) ends is =
+        absurd (none_is node_of_list.0 (sym (none_below path leaf c ps h rest ends)
+        ∙ ap (node_at (counts_of leaf c ps)) (sym is) ∙ node_of_list.1))
 
     of_leaf : HasLeaf leaf c ps p → is_leaf_at (counts_of leaf c ps) (path_of paths list) ≡ true
     of_leaf q =

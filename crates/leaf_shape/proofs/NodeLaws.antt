@@ -15,7 +15,8 @@ some_is x y e = cc
 pub none_is : {X : Type 0} (x : X) → None ≡ Some x → ⊥
 none_is x e = cc
 
-pub node_step : (nodes : List Node) (i g first : ℕ) (path : List ℕ) → g < 8 → (node nodes i).below ≡ Some first → node_at nodes i (g ∷ path) ≡ node_at nodes (first + g) path
+pub node_step : (nodes : List Node) (i g first : ℕ) (path : List ℕ) → g < 8 → (node nodes i).below ≡ Some first
+    → node_at nodes i (g ∷ path) ≡ node_at nodes (first + g) path
 node_step nodes i g first path low is =
     ap (λ b. cond b (option_and_then (λ f. node_at nodes (f + g) path) (node nodes i).below) None) (lt-ltb g 8 low)
     ∙ ap (option_and_then (λ f. node_at nodes (f + g) path)) is
@@ -80,7 +81,8 @@ octants_below nodes i (g ∷ path) j e =
     All-cons (λ g. g < 8) g path s.octant (octants_below nodes (s.first + g) path j s.rest)
 
 -- ---- missing nodes
-pub missing_step : (nodes : List Node) (i g first : ℕ) (path : List ℕ) → (node nodes i).below ≡ Some first → missing nodes i (g ∷ path) ≡ missing nodes (first + g) path
+pub missing_step : (nodes : List Node) (i g first : ℕ) (path : List ℕ) → (node nodes i).below ≡ Some first
+    → missing nodes i (g ∷ path) ≡ missing nodes (first + g) path
 missing_step nodes i g first path is = ap (λ o. option_map_or (λ f. missing nodes (f + g) path) o (length path + 1)) is
 
 pub missing_all : (nodes : List Node) (i g : ℕ) (path : List ℕ) → (node nodes i).below ≡ None → missing nodes i (g ∷ path) ≡ length path + 1
@@ -95,7 +97,8 @@ few_missing nodes i (g ∷ path) = of_below (node nodes i).below refl
     of_below (Some first) is = omega (arith, missing_step nodes i g first path is, few_missing nodes (first + g) path)
 
 -- of a path whose first octants lead to a node only the later ones can be missing
-pub missing_behind : (nodes : List Node) (i steps : ℕ) (path : List ℕ) (j : ℕ) → node_at nodes i (take steps path) ≡ Some j → missing nodes i path ≤ length path - steps
+pub missing_behind : (nodes : List Node) (i steps : ℕ) (path : List ℕ) (j : ℕ)
+    → node_at nodes i (take steps path) ≡ Some j → missing nodes i path ≤ length path - steps
 missing_behind nodes i zero path j e = omega (arith, few_missing nodes i path)
 missing_behind nodes i (suc steps) [] j e = omega arith
 missing_behind nodes i (suc steps) (g ∷ path) j e =
@@ -136,7 +139,8 @@ module _ (old new : List Node) (n first : ℕ) (tree : IsTree old) (has : HasChi
   kept_nodes i [] j low e = e
   kept_nodes i (g ∷ path) j low e =
       let s : IsStep old i g path j = step_from old i g path j e in
-      node_step new i g s.first path s.octant (kept_below i s.first low s.below) ∙ kept_nodes (s.first + g) path j (omega (arith, tree.eight i s.first s.below, s.octant)) s.rest
+      node_step new i g s.first path s.octant (kept_below i s.first low s.below)
+          ∙ kept_nodes (s.first + g) path j (omega (arith, tree.eight i s.first s.below, s.octant)) s.rest
 
   -- a node that had no children and has some now is the one that was given them
   record IsGiven (i f : ℕ) : Type 0 where
@@ -167,7 +171,9 @@ module _ (old new : List Node) (n first : ℕ) (tree : IsTree old) (has : HasChi
     low = low;
     number = let is : f + g ≡ j = some_is (f + g) j e in omega (arith, given.first, given.made);
   }
-  new_end i g f (h ∷ path) j given low e = absurd (none_is j (sym (no_step new (f + g) h path (fresh_below (f + g) (omega (arith, given.first, given.made)))) ∙ e))
+  new_end i g f (h ∷ path) j given low e =
+      let past : length old ≤ f + g = omega (arith, given.first, given.made) in
+      absurd (none_is j (sym (no_step new (f + g) h path (fresh_below (f + g) past)) ∙ e))
 
   pub came : (i : ℕ) (path : List ℕ) (j : ℕ) → i < length old → node_at new i path ≡ Some j → IsOld old i path j ⊎ IsMade old n i path j
   came i [] j low e = inl record { at = e; low = let is : i ≡ j = some_is i j e in omega arith }
@@ -175,9 +181,17 @@ module _ (old new : List Node) (n first : ℕ) (tree : IsTree old) (has : HasChi
       let s : IsStep new i g path j = step_from new i g path j e in
       of_below s (node old i).below refl
     where
-      further : (f : ℕ) → (node old i).below ≡ Some f → g < 8 → IsOld old (f + g) path j ⊎ IsMade old n (f + g) path j → IsOld old i (g ∷ path) j ⊎ IsMade old n i (g ∷ path) j
+      further : (f : ℕ) → (node old i).below ≡ Some f → g < 8 → IsOld old (f + g) path j ⊎ IsMade old n (f + g) path j
+          → IsOld old i (g ∷ path) j ⊎ IsMade old n i (g ∷ path) j
       further f is octant (inl o) = inl record { at = node_step old i g f path octant is ∙ o.at; low = o.low }
-      further f is octant (inr m) = inr record { way = g ∷ m.way; octant = m.octant; is = ap (λ (q : List ℕ). g ∷ q) m.is; at = node_step old i g f m.way octant is ∙ m.at; low = m.low; number = m.number }
+      further f is octant (inr m) = inr record {
+        way = g ∷ m.way;
+        octant = m.octant;
+        is = ap (λ (q : List ℕ). g ∷ q) m.is;
+        at = node_step old i g f m.way octant is ∙ m.at;
+        low = m.low;
+        number = m.number;
+      }
 
       of_below : IsStep new i g path j → (o : Option ℕ) → (node old i).below ≡ o → IsOld old i (g ∷ path) j ⊎ IsMade old n i (g ∷ path) j
       of_below s None none = inr (new_end i g s.first path j (given i s.first low none s.below) s.octant s.rest)

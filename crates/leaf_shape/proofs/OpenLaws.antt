@@ -24,7 +24,8 @@ module _ (old nodes : List Node) (path : List ℕ) (step i : ℕ) (r : IsReached
   reached_within = within nodes 0 (take step path) i r.tree r.tree.some r.at
 
   -- one step more
-  pub reached_next : (new : List Node) (first g : ℕ) → HasChildren nodes new i first → g < 8 → slice_get path step ≡ Some g → IsReached old new path (step + 1) (first + g)
+  pub reached_next : (new : List Node) (first g : ℕ) → HasChildren nodes new i first → g < 8
+      → slice_get path step ≡ Some g → IsReached old new path (step + 1) (first + g)
   reached_next new first g has low at = record {
     tree = tree_with_children nodes new i first r.tree has;
     kept = λ other j e. kept_nodes nodes new i first r.tree has 0 other j r.tree.some (r.kept other j e);
@@ -44,7 +45,9 @@ module _ (old nodes : List Node) (path : List ℕ) (step i : ℕ) (r : IsReached
       below = record {
         octant = g;
         rest = drop (step + 1) path;
-        is = sym (take-append-drop step path) ∙ ap (λ (q : List ℕ). take step path ++ q) (drop_more path step 0 short ∙ ap (λ k. k ∷ drop (step + 1) path) (get_or_from_slice_get path step g 0 at));
+        is = sym (take-append-drop step path)
+            ∙ ap (λ (q : List ℕ). take step path ++ q) (drop_more path step 0 short
+            ∙ ap (λ k. k ∷ drop (step + 1) path) (get_or_from_slice_get path step g 0 at));
       }
 
       used : (other : List ℕ) → HasChildrenAt nodes other ⊎ (node_at nodes 0 other ≡ Some i) → HasChildrenAt old other ⊎ IsBelow other path
@@ -62,7 +65,12 @@ module _ (old nodes : List Node) (path : List ℕ) (step i : ℕ) (r : IsReached
     here = same_nodes nodes new i list has 0 path ∙ at;
     list = list_here nodes new i list has path at;
     others = λ other ne. lists_elsewhere nodes new i list has path other r.tree at ne ∙ r.lists other;
-    used = λ other j first e is. r.used other record { number = j; first = first; at = sym (same_nodes nodes new i list has 0 other) ∙ e; below = sym (has.below j) ∙ is };
+    used = λ other j first e is. r.used other record {
+      number = j;
+      first = first;
+      at = sym (same_nodes nodes new i list has 0 other) ∙ e;
+      below = sym (has.below j) ∙ is;
+    };
   }
     where
       at : node_at nodes 0 path ≡ Some i
@@ -73,14 +81,17 @@ pub record IsMissing (nodes new : List Node) (i : ℕ) (g : ℕ) (rest : List �
   pub had : (f : ℕ) → (node nodes i).below ≡ Some f → missing new (first + g) rest ≤ missing nodes i (g ∷ rest)
   pub made : (node nodes i).below ≡ None → missing new (first + g) rest + 1 ≤ missing nodes i (g ∷ rest)
 
-pub missing_next : (nodes new : List Node) (i g first : ℕ) (rest : List ℕ) → IsTree nodes → HasChildren nodes new i first → g < 8 → IsMissing nodes new i g rest first
+pub missing_next : (nodes new : List Node) (i g first : ℕ) (rest : List ℕ) → IsTree nodes
+    → HasChildren nodes new i first → g < 8 → IsMissing nodes new i g rest first
 missing_next nodes new i g first rest tree has low = record { had = had; made = made }
   where
     had : (f : ℕ) → (node nodes i).below ≡ Some f → missing new (first + g) rest ≤ missing nodes i (g ∷ rest)
     had f is = of_made has.made
       where
-        of_made : ((node nodes i).below ≡ Some first) ⊎ ((node nodes i).below ≡ None) × (first ≡ length nodes) → missing new (first + g) rest ≤ missing nodes i (g ∷ rest)
-        of_made (inl was) = omega (arith, missing_step nodes i g first rest was, missing_falls nodes new i first tree has (first + g) rest (omega (arith, tree.eight i first was, low)))
+        of_made : ((node nodes i).below ≡ Some first) ⊎ ((node nodes i).below ≡ None) × (first ≡ length nodes)
+            → missing new (first + g) rest ≤ missing nodes i (g ∷ rest)
+        of_made (inl was) = omega (arith, missing_step nodes i g first rest was,
+            missing_falls nodes new i first tree has (first + g) rest (omega (arith, tree.eight i first was, low)))
         of_made (inr none) = absurd (none_is f (sym none.0 ∙ is))
 
     made : (node nodes i).below ≡ None → missing new (first + g) rest + 1 ≤ missing nodes i (g ∷ rest)

@@ -35,7 +35,8 @@ module _ (cube : CubeValue) (old new : List Node) (paths : List (List ℕ)) (pla
     each = λ list q low at. each list q at (before_or_last paths path list low);
   }
     where
-      each : (list : ℕ) (q : Place) → q ≡ get_or (places ++ place ∷ []) list q → (list < length paths) ⊎ (list ≡ length paths) → IsPlaced cube new (path_of (paths ++ path ∷ []) list) q
+      each : (list : ℕ) (q : Place) → q ≡ get_or (places ++ place ∷ []) list q
+          → (list < length paths) ⊎ (list ≡ length paths) → IsPlaced cube new (path_of (paths ++ path ∷ []) list) q
       each list q at (inl low) =
           let was : IsPlaced cube old (path_of paths list) q =
               placed.each list q low (at ∙ get_or_append_left places (place ∷ []) q list (omega (arith, low, placed.len))) in
@@ -63,28 +64,34 @@ shared_node nodes path other steps has same =
     record { number = w.number; at = ap (node_at nodes 0) (sym same) ∙ w.at }
 
 -- an opening takes no more nodes than were counted for it
-pub room_for : (nodes : List Node) (ready : List Opening) (k : ℕ) (o : Opening) → AreShared ready → k < length ready → o ≡ get_or ready k o → HasNode nodes (path_of ([] ∷ paths_of ready) k)
+pub room_for : (nodes : List Node) (ready : List Opening) (k : ℕ) (o : Opening) → AreShared ready → k < length ready
+    → o ≡ get_or ready k o → HasNode nodes (path_of ([] ∷ paths_of ready) k)
     → missing nodes 0 o.path + blocks (drop (k + 1) ready) ≤ blocks (drop k ready)
 room_for nodes ready k o shared low at before =
     let has : HasNode nodes (take o.shared o.path) = shared_node nodes o.path (path_of ([] ∷ paths_of ready) k) o.shared before (shared k o low at) in
-    let one : (λ (q : Opening). length q.path - q.shared) (get_or ready k o) ≡ length o.path - o.shared = ap (λ (q : Opening). length q.path - q.shared) (sym at) in
+    let one : (λ (q : Opening). length q.path - q.shared) (get_or ready k o) ≡ length o.path - o.shared =
+        ap (λ (q : Opening). length q.path - q.shared) (sym at) in
     omega (arith, missing_behind nodes 0 o.shared o.path has.number has.at, one, sum_by-drop_more (λ (q : Opening). length q.path - q.shared) ready k o low)
 
-pub fits_at : (cube : CubeValue) (ready : List Opening) (k : ℕ) (o : Opening) → All (λ (q : Opening). length q.path + 7 ≤ cube.bits) ready → k < length ready → o ≡ get_or ready k o
+pub fits_at : (cube : CubeValue) (ready : List Opening) (k : ℕ) (o : Opening)
+    → All (λ (q : Opening). length q.path + 7 ≤ cube.bits) ready → k < length ready → o ≡ get_or ready k o
     → length o.path + 7 ≤ cube.bits
 fits_at cube ready k o fit low at =
     let P : Opening → Type 0 = λ q. length q.path + 7 ≤ cube.bits in
     subst P (sym at) (All-get_or P ready k o low fit)
 
 -- ---- openings one after the other
-pub shared_more : (ready : List Opening) (o : Opening) → AreShared ready → take o.shared (path_of ([] ∷ paths_of ready) (length ready)) ≡ take o.shared o.path → AreShared (ready ++ o ∷ [])
+pub shared_more : (ready : List Opening) (o : Opening) → AreShared ready
+    → take o.shared (path_of ([] ∷ paths_of ready) (length ready)) ≡ take o.shared o.path
+    → AreShared (ready ++ o ∷ [])
 shared_more ready o shared same k q low at = of_place (cases_lt k (length ready))
   where
     paths_are : [] ∷ paths_of (ready ++ o ∷ []) ≡ ([] ∷ paths_of ready) ++ o.path ∷ []
     paths_are = ap (λ (ps : List (List ℕ)). [] ∷ ps) (map_push (λ (r : Opening). r.path) ready o)
 
     before_is : (j : ℕ) → j ≤ length ready → path_of ([] ∷ paths_of (ready ++ o ∷ [])) j ≡ path_of ([] ∷ paths_of ready) j
-    before_is j le = ap (λ (ps : List (List ℕ)). path_of ps j) paths_are ∙ path_before ([] ∷ paths_of ready) o.path j (omega (arith, le, length-map ready (λ (r : Opening). r.path)))
+    before_is j le = ap (λ (ps : List (List ℕ)). path_of ps j) paths_are
+        ∙ path_before ([] ∷ paths_of ready) o.path j (omega (arith, le, length-map ready (λ (r : Opening). r.path)))
 
     of_place : (k < length ready) ⊎ (length ready ≤ k) → take q.shared (path_of ([] ∷ paths_of (ready ++ o ∷ [])) k) ≡ take q.shared q.path
     of_place (inl inside) =
@@ -94,7 +101,8 @@ shared_more ready o shared same k q low at = of_place (cases_lt k (length ready)
         let is : q ≡ o = at ∙ get_or_push ready o q k (sym last) in
         let n : q.shared ≡ o.shared = ap (λ (r : Opening). r.shared) is in
         let path : q.path ≡ o.path = ap (λ (r : Opening). r.path) is in
-        (λ i. take (n i) (path_of ([] ∷ paths_of (ready ++ o ∷ [])) (last i))) ∙ ap (take o.shared) (before_is (length ready) (omega arith)) ∙ same ∙ sym (λ i. take (n i) (path i))
+        (λ i. take (n i) (path_of ([] ∷ paths_of (ready ++ o ∷ [])) (last i)))
+            ∙ ap (take o.shared) (before_is (length ready) (omega arith)) ∙ same ∙ sym (λ i. take (n i) (path i))
 
 pub none_shared : AreShared []
 none_shared k o low at = absurd (omega arith)

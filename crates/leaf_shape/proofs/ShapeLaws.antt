@@ -16,16 +16,19 @@ way_of : (cube : CubeValue) (paths : List (List ℕ)) (list : ℕ) → All (IsPa
 way_of cube paths list all low = way_in cube (path_of paths list) (All-get_or (IsPathIn cube) paths list [] low all)
 
 -- a point in the cube of a path that goes on lies in the cube of the path above
-pub contained_before : (cube : CubeValue) (above rest : List ℕ) (p : PointValue) → IsWay cube (above ++ rest) → contains (cube_at cube (above ++ rest)) p ≡ true → contains (cube_at cube above) p ≡ true
+pub contained_before : (cube : CubeValue) (above rest : List ℕ) (p : PointValue) → IsWay cube (above ++ rest)
+    → contains (cube_at cube (above ++ rest)) p ≡ true → contains (cube_at cube above) p ≡ true
 contained_before cube [] rest p way e = contained_above cube rest p way e
 contained_before cube (g ∷ above) rest p way e = contained_before (child cube g) above rest p (way_on cube g (above ++ rest) way) e
 
-pub one_list : (cube : CubeValue) (paths : List (List ℕ)) (p : PointValue) (list other : ℕ) → All (IsPathIn cube) paths → IsListOf cube paths p list → IsListOf cube paths p other → list ≡ other
+pub one_list : (cube : CubeValue) (paths : List (List ℕ)) (p : PointValue) (list other : ℕ)
+    → All (IsPathIn cube) paths → IsListOf cube paths p list → IsListOf cube paths p other → list ≡ other
 one_list cube paths p list other all l m =
     let len : length (path_of paths list) ≡ length (path_of paths other) =
         omega (arith, l.longest other m.latest.opened m.contained, m.longest list l.latest.opened l.contained) in
     let same : path_of paths list ≡ path_of paths other =
-        same_path cube (path_of paths list) (path_of paths other) p (way_of cube paths list all l.latest.opened) (way_of cube paths other all m.latest.opened) l.contained m.contained len in
+        same_path cube (path_of paths list) (path_of paths other) p
+        (way_of cube paths list all l.latest.opened) (way_of cube paths other all m.latest.opened) l.contained m.contained len in
     omega (arith, l.latest.latest other m.latest.opened (sym same), m.latest.latest list l.latest.opened same)
 
 -- ---- more lists
@@ -50,7 +53,8 @@ module _ (paths more : List (List ℕ)) where
       }
   ]
 
-pub stays_elsewhere : (cube : CubeValue) (paths more : List (List ℕ)) (path : List ℕ) (p : PointValue) (list : ℕ) → All (IsPathIn cube) more → All (GoesOn path) more
+pub stays_elsewhere : (cube : CubeValue) (paths more : List (List ℕ)) (path : List ℕ) (p : PointValue) (list : ℕ)
+    → All (IsPathIn cube) more → All (GoesOn path) more
     → contains (cube_at cube path) p ≡ false → IsListOf cube paths p list → IsListOf cube (paths ++ more) p list
 stays_elsewhere cube paths more path p list all below outside l = record {
   latest = record {
@@ -83,14 +87,17 @@ stays_elsewhere cube paths more path p list all below outside l = record {
     longest : (other : ℕ) → contains (cube_at cube (path_of (paths ++ more) other)) p ≡ true → (other < length paths) ⊎ IsNew paths more other
         → length (path_of (paths ++ more) other) ≤ length (path_of (paths ++ more) list)
     longest other e (inl low) =
-        omega (arith, l.longest other low (ap (λ q. contains (cube_at cube q) p) (sym (path_kept paths more other low)) ∙ e), ap length (path_kept paths more other low), ap length kept)
+        let has : contains (cube_at cube (path_of paths other)) p ≡ true = ap (λ q. contains (cube_at cube q) p) (sym (path_kept paths more other low)) ∙ e in
+        omega (arith, l.longest other low has, ap length (path_kept paths more other low), ap length kept)
     longest other e (inr n) = absurd (not_new other n e)
 
-pub goes_down : (cube : CubeValue) (paths more : List (List ℕ)) (p : PointValue) (list later : ℕ) → All (IsPathIn cube) (paths ++ more) → IsListOf cube paths p list → IsListOf cube (paths ++ more) p later
+pub goes_down : (cube : CubeValue) (paths more : List (List ℕ)) (p : PointValue) (list later : ℕ)
+    → All (IsPathIn cube) (paths ++ more) → IsListOf cube paths p list → IsListOf cube (paths ++ more) p later
     → GoesOn (path_of paths list) (path_of (paths ++ more) later)
 goes_down cube paths more p list later all l m =
     let low : list < length (paths ++ more) = omega (arith, l.latest.opened, length-append paths more) in
     let kept : path_of (paths ++ more) list ≡ path_of paths list = path_kept paths more list l.latest.opened in
     let P : List ℕ → Type 0 = λ q. IsWay cube q in
-    goes_on cube (path_of paths list) (path_of (paths ++ more) later) p (subst P kept (way_of cube (paths ++ more) list all low)) (way_of cube (paths ++ more) later all m.latest.opened) l.contained m.contained
+    goes_on cube (path_of paths list) (path_of (paths ++ more) later) p
+    (subst P kept (way_of cube (paths ++ more) list all low)) (way_of cube (paths ++ more) later all m.latest.opened) l.contained m.contained
     (omega (arith, ap length kept, m.longest list low (ap (λ q. contains (cube_at cube q) p) kept ∙ l.contained)))

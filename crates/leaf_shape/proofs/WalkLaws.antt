@@ -28,7 +28,8 @@ pub record IsWalk (cube : CubeValue) (nodes : List Node) (paths : List (List ℕ
   pub longest : (other : ℕ) → other < length paths → contains (cube_at cube (path_of paths other)) p ≡ true → length (path_of paths other) ≤ length path
       → length (path_of paths other) ≤ length (path_of paths list)
 
-module _ (cube : CubeValue) (nodes : List Node) (paths : List (List ℕ)) (listed : AreListed nodes paths) (fit : (list : ℕ) → list < length paths → IsPathIn cube (path_of paths list)) where
+module _ (cube : CubeValue) (nodes : List Node) (paths : List (List ℕ)) (listed : AreListed nodes paths)
+    (fit : (list : ℕ) → list < length paths → IsPathIn cube (path_of paths list)) where
 
   way_of : (list : ℕ) → list < length paths → IsWay cube (path_of paths list)
   way_of list low = let in_cube : IsPathIn cube (path_of paths list) = fit list low in record { octants = in_cube.octants; fits = omega (arith, in_cube.fits) }
@@ -39,7 +40,9 @@ module _ (cube : CubeValue) (nodes : List Node) (paths : List (List ℕ)) (liste
     where
       of_node : (o : Option ℕ) → node_at nodes 0 (path_of paths list) ≡ o → (i : ℕ) × (node_at nodes 0 (path_of paths list) ≡ Some i)
       of_node None none =
-          let bad : is_some (None {T = ℕ}) ≡ true = sym (ap (λ (o : Option ℕ). is_some (option_and_then (λ i. (node nodes i).list) o)) none) ∙ listed.found list low in
+          let bad : is_some (None {T = ℕ}) ≡ true =
+              sym (ap (λ (o : Option ℕ). is_some (option_and_then (λ i. (node nodes i).list) o)) none)
+              ∙ listed.found list low in
           absurd (cc)
       of_node (Some i) is = (i, is)
 
@@ -47,7 +50,8 @@ module _ (cube : CubeValue) (nodes : List Node) (paths : List (List ℕ)) (liste
   way_to path i at le = record { octants = octants_below nodes 0 path i at; fits = le }
 
   -- at a node with no children no longer path of a list contains the point
-  pub ends_here : (p : PointValue) (path : List ℕ) (i other : ℕ) → node_at nodes 0 path ≡ Some i → length path ≤ cube.bits → contains (cube_at cube path) p ≡ true → (node nodes i).below ≡ None
+  pub ends_here : (p : PointValue) (path : List ℕ) (i other : ℕ) → node_at nodes 0 path ≡ Some i
+      → length path ≤ cube.bits → contains (cube_at cube path) p ≡ true → (node nodes i).below ≡ None
       → other < length paths → contains (cube_at cube (path_of paths other)) p ≡ true → length (path_of paths other) ≤ length path
   ends_here p path i other at le has none low has' = elim (cases_lt (length path) (length (path_of paths other))) [
     | inl longer ↦ of_rest longer (goes_on cube path (path_of paths other) p (way_to path i at le) (way_of other low) has has' (omega (arith, longer)))
@@ -74,9 +78,12 @@ module _ (cube : CubeValue) (nodes : List Node) (paths : List (List ℕ)) (liste
   stands_at path i list at is = listed.named path list (ap (option_and_then (λ j. (node nodes j).list)) at ∙ is)
 
   -- where no list stands at a node, no list has its path
-  pub none_at : (path : List ℕ) (i other : ℕ) → node_at nodes 0 path ≡ Some i → (node nodes i).list ≡ None → other < length paths → path_of paths other ≡ path → ⊥
+  pub none_at : (path : List ℕ) (i other : ℕ) → node_at nodes 0 path ≡ Some i → (node nodes i).list ≡ None
+      → other < length paths → path_of paths other ≡ path → ⊥
   none_at path i other at none low is =
-      let bad : is_some (None {T = ℕ}) ≡ true = sym (ap (λ (o : Option ℕ). is_some o) (ap (list_at nodes) is ∙ ap (option_and_then (λ j. (node nodes j).list)) at ∙ none)) ∙ listed.found other low in
+      let bad : is_some (None {T = ℕ}) ≡ true =
+          sym (ap (λ (o : Option ℕ). is_some o) (ap (list_at nodes) is
+          ∙ ap (option_and_then (λ j. (node nodes j).list)) at ∙ none)) ∙ listed.found other low in
       cc
 
   latest_of_path : (path : List ℕ) (list : ℕ) → IsLatest paths path list → IsLatest paths (path_of paths list) list
@@ -149,7 +156,8 @@ module _ (cube : CubeValue) (nodes : List Node) (paths : List (List ℕ)) (liste
     }
       where
         of_length : (other : ℕ) → other < length paths → contains (cube_at cube (path_of paths other)) p ≡ true
-            → (length w.path < length (path_of paths other)) ⊎ (length (path_of paths other) ≤ length w.path) → length (path_of paths other) ≤ length (w.path ++ g ∷ [])
+            → (length w.path < length (path_of paths other)) ⊎ (length (path_of paths other) ≤ length w.path)
+                → length (path_of paths other) ≤ length (w.path ++ g ∷ [])
             → length (path_of paths other) ≤ length (path_of paths list)
         of_length other lower has'' (inr short) le = w.longest other lower has'' short
         of_length other lower has'' (inl longer) le =
@@ -160,7 +168,8 @@ module _ (cube : CubeValue) (nodes : List Node) (paths : List (List ℕ)) (liste
             absurd (none_at (w.path ++ g ∷ []) n other at' none lower same)
 
   -- the walk ends at a node with no children
-  pub walk_ends : (p : PointValue) (i : ℕ) (here : CubeValue) (list : ℕ) → IsWalk cube nodes paths p i here list → (node nodes i).below ≡ None → IsListOf cube paths p list
+  pub walk_ends : (p : PointValue) (i : ℕ) (here : CubeValue) (list : ℕ) → IsWalk cube nodes paths p i here list
+      → (node nodes i).below ≡ None → IsListOf cube paths p list
   walk_ends p i here list w none = record {
     latest = w.latest;
     contained = w.list_contained;
@@ -169,7 +178,8 @@ module _ (cube : CubeValue) (nodes : List Node) (paths : List (List ℕ)) (liste
   }
 
   -- a list at a node with no children, in whose cube a point lies
-  pub list_at_end : (p : PointValue) (path : List ℕ) (i list : ℕ) → node_at nodes 0 path ≡ Some i → length path ≤ cube.bits → (node nodes i).list ≡ Some list → (node nodes i).below ≡ None
+  pub list_at_end : (p : PointValue) (path : List ℕ) (i list : ℕ) → node_at nodes 0 path ≡ Some i
+      → length path ≤ cube.bits → (node nodes i).list ≡ Some list → (node nodes i).below ≡ None
       → contains (cube_at cube path) p ≡ true → IsListOf cube paths p list
   list_at_end p path i list at le is none has =
       let l : IsLatest paths path list = stands_at path i list at is in
@@ -183,7 +193,9 @@ module _ (cube : CubeValue) (nodes : List Node) (paths : List (List ℕ)) (liste
   pub unsplit_end : (path : List ℕ) (i : ℕ) → node_at nodes 0 path ≡ Some i → (node nodes i).below ≡ None → IsSplit paths path → ⊥
   unsplit_end path i at none s =
       let f : (j : ℕ) × (node_at nodes 0 (path_of paths s.list) ≡ Some j) = found_node s.list s.opened in
-      none_is f.0 (sym (no_step nodes i s.below.octant s.below.rest none) ∙ sym (at_append nodes 0 path (s.below.octant ∷ s.below.rest) i at) ∙ ap (node_at nodes 0) (sym s.below.is) ∙ f.1)
+      none_is f.0 (sym (no_step nodes i s.below.octant s.below.rest none)
+          ∙ sym (at_append nodes 0 path (s.below.octant ∷ s.below.rest) i at) ∙ ap (node_at nodes 0) (sym s.below.is)
+          ∙ f.1)
 
   pub end_of_unsplit : (path : List ℕ) (i : ℕ) → node_at nodes 0 path ≡ Some i → (IsSplit paths path → ⊥) → (node nodes i).below ≡ None
   end_of_unsplit path i at unsplit = of_below (node nodes i).below refl

@@ -9,7 +9,8 @@ paths_of openings = map (λ (o : Opening). o.path) openings
 
 -- each has the first so many octants of the one before it; the first one is taken to come after the root's path
 abbrev pub AreShared : List Opening → Type 0
-AreShared openings = (k : ℕ) (o : Opening) → k < length openings → o ≡ slice_index_or openings k o → take o.shared (path_of ([] ∷ paths_of openings) k) ≡ take o.shared o.path
+AreShared openings = (k : ℕ) (o : Opening) → k < length openings → o ≡ slice_index_or openings k o
+    → take o.shared (path_of ([] ∷ paths_of openings) k) ≡ take o.shared o.path
 
 -- how many nodes at most are given children: one for each octant that is not that of the path before
 abbrev pub blocks : List Opening → ℕ

@@ -1,5 +1,5 @@
 -- The shape of an octree as its lists stand: for which paths lists were opened, and which list a point has.
-use Rattle.std.specs.Prelude.{ℕ, ◌≡◌, ◌+◌, ◌<◌, ◌≤◌, List, [], ◌∷◌, ◌++◌, length, IsTrue, slice_index_or, All}
+use Rattle.std.specs.Prelude.{ℕ, ◌≡◌, ◌+◌, ◌<◌, ◌≤◌, List, [], ◌∷◌, ◌++◌, length, drop, IsTrue, slice_index_or, All}
 use Rattle.cube_math.specs.Cubes.{CubeValue, contains, cube_at}
 use Rattle.cube_math.specs.Points.{PointValue}
 
@@ -9,6 +9,10 @@ pub record ShapeValue : Type 0 where
   pub cube : CubeValue
   pub paths : List (List ℕ)
   pub ready : List (List ℕ)
+
+-- a shape with the lists that a newer one has beyond its own number of lists
+abbrev pub caught_up : ShapeValue → ShapeValue → ShapeValue
+caught_up older newer = record { cube = older.cube; paths = older.paths ++ drop (length older.paths) newer.paths; ready = [] }
 
 -- the path for which a list was opened
 abbrev pub path_of : List (List ℕ) → ℕ → List ℕ
@@ -29,7 +33,8 @@ pub record IsLatest (paths : List (List ℕ)) (path : List ℕ) (list : ℕ) : T
 pub record IsListOf (cube : CubeValue) (paths : List (List ℕ)) (p : PointValue) (list : ℕ) : Type 0 where
   pub latest : IsLatest paths (path_of paths list) list
   pub contained : IsTrue (contains (cube_at cube (path_of paths list)) p)
-  pub longest : (other : ℕ) → other < length paths → IsTrue (contains (cube_at cube (path_of paths other)) p) → length (path_of paths other) ≤ length (path_of paths list)
+  pub longest : (other : ℕ) → other < length paths → IsTrue (contains (cube_at cube (path_of paths other)) p)
+      → length (path_of paths other) ≤ length (path_of paths list)
 
 -- a path goes on from another one, or is that one
 pub record GoesOn (from path : List ℕ) : Type 0 where

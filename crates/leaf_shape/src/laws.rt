@@ -15,7 +15,8 @@ pub fn lists_of_a_point_are_one()
 /// A law of whatever points: where a list was opened for each leaf of their octree, and none for a path at which no node
 /// stands, the list of a point is that of its leaf.
 pub fn lists_are_those_of_leaves()
-    ensures { (leaf : ℕ) (cube : CubeValue) (points : List PointValue) (paths : List (List ℕ)) (p : PointValue) (list : ℕ) → 7 ≤ cube.bits → IsTrue (contains cube p)
+    ensures { (leaf : ℕ) (cube : CubeValue) (points : List PointValue) (paths : List (List ℕ)) (p : PointValue) (list : ℕ)
+        → 7 ≤ cube.bits → IsTrue (contains cube p)
         → ((path : List ℕ) → IsTrue (is_leaf_at (counted (octree leaf cube points)) path) → Contains paths path)
         → All (λ path. IsSome (node_at (counted (octree leaf cube points)) path)) paths
         → IsListOf cube paths p list → IsTrue (is_leaf_at (counted (octree leaf cube points)) (path_of paths list)) }

@@ -1,6 +1,6 @@
-ghost use Rattle.std.specs.Prelude.{◌≡◌, ◌≢◌, ℕ, ◌+◌, ◌≤◌, ◌<◌, ◌↔◌, List, [], ◌∷◌, ◌++◌, All, IsTrue, IfOk, OnOk, OnErr, drop, length};
+ghost use Rattle.std.specs.Prelude.{◌≡◌, ◌≢◌, ℕ, ◌+◌, ◌≤◌, ◌<◌, ◌↔◌, List, [], ◌∷◌, ◌++◌, All, IsTrue, IfOk, OnOk, OnErr, length};
 ghost use Rattle.cube_math.specs.Cubes.{contains, cube_at};
-ghost use Rattle.leaf_shape.specs.Shapes.{IsListOf, IsPathIn, IsSplit, ShapeValue, path_of};
+ghost use Rattle.leaf_shape.specs.Shapes.{caught_up, IsListOf, IsPathIn, IsSplit, ShapeValue, path_of};
 
 use crate::node::{Node, bare_node};
 use crate::opening::{Opening, count_blocks, openings};
@@ -180,8 +180,9 @@ impl LeafShape {
     /// Opens the lists that a newer shape of the same cube has beyond the number of lists here: an older state of
     /// it becomes as it is now. Of a shape of another cube it becomes a copy. What was ready is let go.
     pub fn catch_up(&mut self, alloc: Global, newer: &LeafShape) -> Result<(), AllocError>
-        ensures caught { newer.now.cube ≡ self.old.cube → OnOk result (self.new ≡ record newer.now { paths = self.old.paths ++ drop (length self.old.paths) newer.now.paths; ready = [] }) }
-        ensures older { (more : List (List ℕ)) → newer.now.cube ≡ self.old.cube → newer.now.paths ≡ self.old.paths ++ more → OnOk result (self.new ≡ record newer.now { ready = [] }) }
+        ensures caught { newer.now.cube ≡ self.old.cube → OnOk result (self.new ≡ caught_up self.old newer.now) }
+        ensures older { (more : List (List ℕ)) → newer.now.cube ≡ self.old.cube
+            → newer.now.paths ≡ self.old.paths ++ more → OnOk result (self.new ≡ record newer.now { ready = [] }) }
         ensures copied { newer.now.cube ≢ self.old.cube → OnOk result (self.new ≡ record newer.now { ready = [] }) }
         ensures err { OnErr result (self.new ≡ self.old) }
     {

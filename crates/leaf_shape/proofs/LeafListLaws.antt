@@ -47,13 +47,13 @@ false_is e = cc
 octants_of_node : (path : List ℕ) (leaf : ℕ) (c : CubeValue) (ps : List PointValue) (node : NodeValue)
     → node_at (counts_of leaf c ps) path ≡ Some node → All (λ g. g < 8) path
 octants_of_node [] leaf c ps node e = All-nil (λ g. g < 8)
-octants_of_node (g ∷ path) leaf c ps node e = of_role (leaf_or_split leaf c ps) (cases_lt g 8)
+octants_of_node (g ∷ path) leaf c ps node e = of_role (leaf_or_split leaf c ps) (cases_lt g 8) (λ d e. octants_of_node path leaf d ps node e)
   where
-    of_role : IsLeafHere leaf c ps ⊎ IsSplit leaf c ps → (g < 8) ⊎ (8 ≤ g) → All (λ k. k < 8) (g ∷ path)
-    of_role (inl here) low = absurd (none_is node (sym (none_below_leaf _ _ g path (counts.is_leaf leaf c ps here)) ∙ e))
-    of_role (inr s) (inl low) = All-cons (λ k. k < 8) g path low
-        (octants_of_node path leaf (child c g) ps node (sym (node_of_child leaf c ps g path s low) ∙ e))
-    of_role (inr s) (inr past) = absurd (none_is node (sym (no_node_of_child leaf c ps g path s past) ∙ e))
+    of_role : IsLeafHere leaf c ps ⊎ IsSplit leaf c ps → (g < 8) ⊎ (8 ≤ g)
+        → ((d : CubeValue) → node_at (counts_of leaf d ps) path ≡ Some node → All (λ k. k < 8) path) → All (λ k. k < 8) (g ∷ path)
+    of_role (inl here) low on = absurd (none_is node (sym (none_below_leaf _ _ g path (counts.is_leaf leaf c ps here)) ∙ e))
+    of_role (inr s) (inl low) on = All-cons (λ k. k < 8) g path low (on (child c g) (sym (node_of_child leaf c ps g path s low) ∙ e))
+    of_role (inr s) (inr past) on = absurd (none_is node (sym (no_node_of_child leaf c ps g path s past) ∙ e))
 
 -- below a leaf no node stands
 none_below : (path : List ℕ) (leaf : ℕ) (c : CubeValue) (ps : List PointValue) (h : ℕ) (rest : List ℕ)
@@ -63,13 +63,14 @@ none_below [] leaf c ps h rest e = of_role (leaf_or_split leaf c ps)
     of_role : IsLeafHere leaf c ps ⊎ IsSplit leaf c ps → node_at (counts_of leaf c ps) (h ∷ rest) ≡ None
     of_role (inl here) = none_below_leaf _ _ h rest (counts.is_leaf leaf c ps here)
     of_role (inr s) = absurd (false_is (sym (no_leaf_here leaf c ps s) ∙ e))
-none_below (g ∷ path) leaf c ps h rest e = of_role (leaf_or_split leaf c ps) (cases_lt g 8)
+none_below (g ∷ path) leaf c ps h rest e = of_role (leaf_or_split leaf c ps) (cases_lt g 8) (λ d e. none_below path leaf d ps h rest e)
   where
-    of_role : IsLeafHere leaf c ps ⊎ IsSplit leaf c ps → (g < 8) ⊎ (8 ≤ g) → node_at (counts_of leaf c ps) (g ∷ path ++ h ∷ rest) ≡ None
-    of_role (inl here) low = absurd (false_is (sym (no_leaf_below leaf c ps g path here) ∙ e))
-    of_role (inr s) (inl low) = node_of_child leaf c ps g (path ++ h ∷ rest) s low
-        ∙ none_below path leaf (child c g) ps h rest (sym (leaf_below leaf c ps g path s low) ∙ e)
-    of_role (inr s) (inr past) = no_node_of_child leaf c ps g (path ++ h ∷ rest) s past
+    of_role : IsLeafHere leaf c ps ⊎ IsSplit leaf c ps → (g < 8) ⊎ (8 ≤ g)
+        → ((d : CubeValue) → is_leaf_at (counts_of leaf d ps) path ≡ true → node_at (counts_of leaf d ps) (path ++ h ∷ rest) ≡ None)
+        → node_at (counts_of leaf c ps) (g ∷ path ++ h ∷ rest) ≡ None
+    of_role (inl here) low on = absurd (false_is (sym (no_leaf_below leaf c ps g path here) ∙ e))
+    of_role (inr s) (inl low) on = node_of_child leaf c ps g (path ++ h ∷ rest) s low ∙ on (child c g) (sym (leaf_below leaf c ps g path s low) ∙ e)
+    of_role (inr s) (inr past) on = no_node_of_child leaf c ps g (path ++ h ∷ rest) s past
 
 -- a point of a cube lies in the cube of a leaf
 record HasLeaf (leaf : ℕ) (c : CubeValue) (ps : List PointValue) (p : PointValue) : Type 0 where
@@ -94,16 +95,17 @@ leaf_of_child leaf c ps p g s low l = record {
 
 has_leaf : (n leaf : ℕ) (c : CubeValue) (ps : List PointValue) (p : PointValue) → c.bits ≤ n → contains c p ≡ true → HasLeaf leaf c ps p
 has_leaf zero leaf c ps p le has = leaf_at_root leaf c ps p (inr (omega arith)) has
-has_leaf (suc n) leaf c ps p le has = of_role (leaf_or_split leaf c ps)
+has_leaf (suc n) leaf c ps p le has = of_role (leaf_or_split leaf c ps) (λ d le has. has_leaf n leaf d ps p le has)
   where
-    of_role : IsLeafHere leaf c ps ⊎ IsSplit leaf c ps → HasLeaf leaf c ps p
-    of_role (inl here) = leaf_at_root leaf c ps p here has
-    of_role (inr s) =
+    of_role : IsLeafHere leaf c ps ⊎ IsSplit leaf c ps
+        → ((d : CubeValue) → d.bits ≤ n → contains d p ≡ true → HasLeaf leaf d ps p) → HasLeaf leaf c ps p
+    of_role (inl here) on = leaf_at_root leaf c ps p here has
+    of_role (inr s) on =
         let some : 0 < c.bits = omega (arith, s.high) in
         let low : octant c p < 8 = octant_below c p some has in
-        leaf_of_child leaf c ps p (octant c p) s low
-        (has_leaf n leaf (child c (octant c p)) ps p (omega (arith, le)) (child_has c p (octant c p) some low
-            ∙ and_from _ _ has (eq-eqb (octant c p) (octant c p) refl)))
+        let below : contains (child c (octant c p)) p ≡ true =
+            child_has c p (octant c p) some low ∙ and_from _ _ has (eq-eqb (octant c p) (octant c p) refl) in
+        leaf_of_child leaf c ps p (octant c p) s low (on (child c (octant c p)) (omega (arith, le)) below)
 
 -- the list of a point is that of its leaf
 pub leaf_has_list : (leaf : ℕ) (c : CubeValue) (ps : List PointValue) (paths : List (List ℕ)) (p : PointValue) (list : ℕ)

@@ -75,21 +75,21 @@ module _ (paths : List (List ℕ)) (path : List ℕ) where
     where
       named : (other : List ℕ) (list : ℕ) → list_at new other ≡ Some list → (other ≡ path) ⊎ (other ≢ path) → IsLatest (paths ++ path ∷ []) other list
       named other list e (inl same) =
-          let number : length paths ≡ list = some_is (length paths) list (sym opened.list ∙ ap (list_at new) (sym same) ∙ e) in
+          let number : length paths ≡ list = some_is (length paths) list (sym opened.noted ∙ ap (list_at new) (sym same) ∙ e) in
           let P : List ℕ → Type 0 = λ q. IsLatest (paths ++ path ∷ []) q list in
           let Q : ℕ → Type 0 = λ n. IsLatest (paths ++ path ∷ []) path n in
           subst P (sym same) (subst Q number latest_itself)
       named other list e (inr ne) = latest_before other list ne (listed.named other list (sym (opened.others other ne) ∙ e))
 
       has_list : (other : List ℕ) → IsSome (list_at old other) → (other ≡ path) ⊎ (other ≢ path) → IsSome (list_at new other)
-      has_list other some (inl same) = ap (λ (o : Option ℕ). is_some o) (ap (list_at new) same ∙ opened.list)
+      has_list other some (inl same) = ap (λ (o : Option ℕ). is_some o) (ap (list_at new) same ∙ opened.noted)
       has_list other some (inr ne) = ap (λ (o : Option ℕ). is_some o) (opened.others other ne) ∙ some
 
       found : (list : ℕ) → (list < length paths) ⊎ (list ≡ length paths) → IsSome (list_at new (path_of (paths ++ path ∷ []) list))
       found list (inl low) =
           let P : List ℕ → Type 0 = λ q. IsSome (list_at new q) in
           subst P (sym (path_before paths path list low)) (has_list (path_of paths list) (listed.found list low) (same_or_not (path_of paths list) path))
-      found list (inr last) = ap (λ (o : Option ℕ). is_some o) (ap (list_at new) (ap (path_of (paths ++ path ∷ [])) last ∙ path_last paths path) ∙ opened.list)
+      found list (inr last) = ap (λ (o : Option ℕ). is_some o) (ap (list_at new) (ap (path_of (paths ++ path ∷ [])) last ∙ path_last paths path) ∙ opened.noted)
 
       used : (other : List ℕ) → HasChildrenAt old other ⊎ IsBelow other path → IsSplit (paths ++ path ∷ []) other
       used other (inl h) = split_before other (listed.used other h.number h.first h.at h.below)

@@ -90,11 +90,11 @@ missing_all nodes i g path is = ap (λ o. option_map_or (λ f. missing nodes (f 
 
 pub few_missing : (nodes : List Node) (i : ℕ) (path : List ℕ) → missing nodes i path ≤ length path
 few_missing nodes i [] = omega arith
-few_missing nodes i (g ∷ path) = of_below (node nodes i).below refl
+few_missing nodes i (g ∷ path) = of_below (node nodes i).below refl (λ k. few_missing nodes k path)
   where
-    of_below : (o : Option ℕ) → (node nodes i).below ≡ o → missing nodes i (g ∷ path) ≤ length (g ∷ path)
-    of_below None is = omega (arith, missing_all nodes i g path is)
-    of_below (Some first) is = omega (arith, missing_step nodes i g first path is, few_missing nodes (first + g) path)
+    of_below : (o : Option ℕ) → (node nodes i).below ≡ o → ((k : ℕ) → missing nodes k path ≤ length path) → missing nodes i (g ∷ path) ≤ length (g ∷ path)
+    of_below None is rest = omega (arith, missing_all nodes i g path is)
+    of_below (Some first) is rest = omega (arith, missing_step nodes i g first path is, rest (first + g))
 
 -- of a path whose first octants lead to a node only the later ones can be missing
 pub missing_behind : (nodes : List Node) (i steps : ℕ) (path : List ℕ) (j : ℕ)
@@ -145,7 +145,7 @@ module _ (old new : List Node) (n first : ℕ) (tree : IsTree old) (has : HasChi
   -- a node that had no children and has some now is the one that was given them
   record IsGiven (i f : ℕ) : Type 0 where
     same : i ≡ n
-    first : f ≡ first
+    first_is : f ≡ first
     made : first ≡ length old
 
   given : (i f : ℕ) → i < length old → (node old i).below ≡ None → (node new i).below ≡ Some f → IsGiven i f
@@ -156,7 +156,7 @@ module _ (old new : List Node) (n first : ℕ) (tree : IsTree old) (has : HasChi
     where
       here : i ≡ n → ((node old n).below ≡ Some first) ⊎ ((node old n).below ≡ None) × (first ≡ length old) → IsGiven i f
       here same (inl had) = absurd (none_is first (sym none ∙ below_of_same i n old same ∙ had))
-      here same (inr had) = record { same = same; first = some_is f first (sym is ∙ below_of_same i n new same ∙ has.below); made = had.1 }
+      here same (inr had) = record { same = same; first_is = some_is f first (sym is ∙ below_of_same i n new same ∙ has.below); made = had.1 }
 
   -- a new node has no children
   fresh_below : (j : ℕ) → length old ≤ j → (node new j).below ≡ None
@@ -169,17 +169,17 @@ module _ (old new : List Node) (n first : ℕ) (tree : IsTree old) (has : HasChi
     is = refl;
     at = ap Some given.same;
     low = low;
-    number = let is : f + g ≡ j = some_is (f + g) j e in omega (arith, given.first, given.made);
+    number = let is : f + g ≡ j = some_is (f + g) j e in omega (arith, given.first_is, given.made);
   }
   new_end i g f (h ∷ path) j given low e =
-      let past : length old ≤ f + g = omega (arith, given.first, given.made) in
+      let past : length old ≤ f + g = omega (arith, given.first_is, given.made) in
       absurd (none_is j (sym (no_step new (f + g) h path (fresh_below (f + g) past)) ∙ e))
 
   pub came : (i : ℕ) (path : List ℕ) (j : ℕ) → i < length old → node_at new i path ≡ Some j → IsOld old i path j ⊎ IsMade old n i path j
   came i [] j low e = inl record { at = e; low = let is : i ≡ j = some_is i j e in omega arith }
   came i (g ∷ path) j low e =
       let s : IsStep new i g path j = step_from new i g path j e in
-      of_below s (node old i).below refl
+      of_below s (node old i).below refl (λ k low e. came k path j low e)
     where
       further : (f : ℕ) → (node old i).below ≡ Some f → g < 8 → IsOld old (f + g) path j ⊎ IsMade old n (f + g) path j
           → IsOld old i (g ∷ path) j ⊎ IsMade old n i (g ∷ path) j
@@ -193,12 +193,14 @@ module _ (old new : List Node) (n first : ℕ) (tree : IsTree old) (has : HasChi
         number = m.number;
       }
 
-      of_below : IsStep new i g path j → (o : Option ℕ) → (node old i).below ≡ o → IsOld old i (g ∷ path) j ⊎ IsMade old n i (g ∷ path) j
-      of_below s None none = inr (new_end i g s.first path j (given i s.first low none s.below) s.octant s.rest)
-      of_below s (Some f) is =
+      of_below : IsStep new i g path j → (o : Option ℕ) → (node old i).below ≡ o
+          → ((k : ℕ) → k < length old → node_at new k path ≡ Some j → IsOld old k path j ⊎ IsMade old n k path j)
+          → IsOld old i (g ∷ path) j ⊎ IsMade old n i (g ∷ path) j
+      of_below s None none on = inr (new_end i g s.first path j (given i s.first low none s.below) s.octant s.rest)
+      of_below s (Some f) is on =
           let same : f ≡ s.first = some_is f s.first (sym (kept_below i f low is) ∙ s.below) in
           let rest : node_at new (f + g) path ≡ Some j = ap (λ k. node_at new (k + g) path) same ∙ s.rest in
-          further f is s.octant (came (f + g) path j (omega (arith, tree.eight i f is, s.octant)) rest)
+          further f is s.octant (on (f + g) (omega (arith, tree.eight i f is, s.octant)) rest)
 
   pub tree_with_children : IsTree new
   tree_with_children = record {
@@ -208,7 +210,7 @@ module _ (old new : List Node) (n first : ℕ) (tree : IsTree old) (has : HasChi
   }
     where
       in_old : (i f : ℕ) → i < length old → (node new i).below ≡ Some f → (o : Option ℕ) → (node old i).below ≡ o → f + 8 ≤ length new
-      in_old i f low is None none = let g : IsGiven i f = given i f low none is in omega (arith, g.first, has.eight)
+      in_old i f low is None none = let g : IsGiven i f = given i f low none is in omega (arith, g.first_is, has.eight)
       in_old i f low is (Some k) had = let same : k ≡ f = some_is k f (sym (kept_below i k low had) ∙ is) in omega (arith, tree.eight i k had, has.longer)
 
       room : (i f : ℕ) → (node new i).below ≡ Some f → f + 8 ≤ length new
@@ -262,27 +264,27 @@ module _ (old new : List Node) (n first : ℕ) (tree : IsTree old) (has : HasChi
   -- no more nodes are missing than before
   pub missing_falls : (i : ℕ) (path : List ℕ) → i < length old → missing new i path ≤ missing old i path
   missing_falls i [] low = omega arith
-  missing_falls i (g ∷ path) low = of_below (node old i).below refl
+  missing_falls i (g ∷ path) low = of_below (node old i).below refl (λ k below. missing_falls k path below)
     where
-      of_below : (o : Option ℕ) → (node old i).below ≡ o → missing new i (g ∷ path) ≤ missing old i (g ∷ path)
-      of_below None none = omega (arith, missing_all old i g path none, few_missing new i (g ∷ path))
-      of_below (Some f) is = elim (cases_lt (f + g) (length old)) [
-        | inl below ↦ omega (arith, missing_step old i g f path is, missing_step new i g f path (kept_below i f low is), missing_falls (f + g) path below)
+      past_missing : (j : ℕ) (q : List ℕ) → length old ≤ j → missing new j q ≤ missing old j q
+      past_missing j [] past = omega arith
+      past_missing j (h ∷ q) past =
+          let none : (node old j).below ≡ None = ap (λ (m : Node). m.below) (get_or_past old j bare past) in
+          omega (arith, missing_all old j h q none, few_missing new j (h ∷ q))
+
+      of_below : (o : Option ℕ) → (node old i).below ≡ o → ((k : ℕ) → k < length old → missing new k path ≤ missing old k path)
+          → missing new i (g ∷ path) ≤ missing old i (g ∷ path)
+      of_below None none rest = omega (arith, missing_all old i g path none, few_missing new i (g ∷ path))
+      of_below (Some f) is rest = elim (cases_lt (f + g) (length old)) [
+        | inl below ↦ omega (arith, missing_step old i g f path is, missing_step new i g f path (kept_below i f low is), rest (f + g) below)
         | inr past ↦ omega (arith, missing_step old i g f path is, missing_step new i g f path (kept_below i f low is), past_missing (f + g) path past)
       ]
-        where
-          past_missing : (j : ℕ) (q : List ℕ) → length old ≤ j → missing new j q ≤ missing old j q
-          past_missing j [] past = omega arith
-          past_missing j (h ∷ q) past = omega (arith, missing_all old j h q none_past, few_missing new j (h ∷ q))
-            where
-              none_past : (node old j).below ≡ None
-              none_past = ap (λ (m : Node). m.below) (get_or_past old j bare past)
 
 -- ---- a node with a list
 pub record HasList (old new : List Node) (i list : ℕ) : Type 0 where
   pub len : length new ≡ length old
   pub below : (j : ℕ) → (node new j).below ≡ (node old j).below
-  pub list : (node new i).list ≡ Some list
+  pub noted : (node new i).list ≡ Some list
   pub others : (j : ℕ) → j ≢ i → (node new j).list ≡ (node old j).list
 
 module _ (old new : List Node) (n list : ℕ) (has : HasList old new n list) where
@@ -290,13 +292,14 @@ module _ (old new : List Node) (n list : ℕ) (has : HasList old new n list) whe
   pub same_nodes : (i : ℕ) (path : List ℕ) → node_at new i path ≡ node_at old i path
   same_nodes i [] = refl
   same_nodes i (g ∷ path) = elim (cases_lt g 8) [
-    | inl low ↦ of_below low (node old i).below refl
+    | inl low ↦ of_below low (node old i).below refl (λ k. same_nodes k path)
     | inr high ↦ past_octants new i g path high ∙ sym (past_octants old i g path high)
   ]
     where
-      of_below : g < 8 → (o : Option ℕ) → (node old i).below ≡ o → node_at new i (g ∷ path) ≡ node_at old i (g ∷ path)
-      of_below low None none = no_step new i g path (has.below i ∙ none) ∙ sym (no_step old i g path none)
-      of_below low (Some f) is = node_step new i g f path low (has.below i ∙ is) ∙ same_nodes (f + g) path ∙ sym (node_step old i g f path low is)
+      of_below : g < 8 → (o : Option ℕ) → (node old i).below ≡ o → ((k : ℕ) → node_at new k path ≡ node_at old k path)
+          → node_at new i (g ∷ path) ≡ node_at old i (g ∷ path)
+      of_below low None none rest = no_step new i g path (has.below i ∙ none) ∙ sym (no_step old i g path none)
+      of_below low (Some f) is rest = node_step new i g f path low (has.below i ∙ is) ∙ rest (f + g) ∙ sym (node_step old i g f path low is)
 
   pub tree_with_list : IsTree old → IsTree new
   tree_with_list tree = record {
@@ -306,7 +309,7 @@ module _ (old new : List Node) (n list : ℕ) (has : HasList old new n list) whe
   }
 
   pub list_here : (path : List ℕ) → node_at old 0 path ≡ Some n → list_at new path ≡ Some list
-  list_here path at = ap (option_and_then (λ i. (node new i).list)) (same_nodes 0 path ∙ at) ∙ has.list
+  list_here path at = ap (option_and_then (λ i. (node new i).list)) (same_nodes 0 path ∙ at) ∙ has.noted
 
   pub lists_elsewhere : (path other : List ℕ) → IsTree old → node_at old 0 path ≡ Some n → other ≢ path → list_at new other ≡ list_at old other
   lists_elsewhere path other tree at ne = of_node (node_at old 0 other) refl

@@ -1,7 +1,9 @@
 -- The nodes while a list is opened for a path.
 use Rattle.std.proofs.Common.{◌≡◌, ◌≢◌, ◌⊎◌, ℕ, suc, ◌+◌, ◌-◌, ◌*◌, ◌<◌, ◌≤◌, inl, inr, List, [], ◌∷◌, ◌++◌, length, take, drop, Some, None, Option, ap, ◌∙◌, sym, refl, arith, subst, slice_get, get_or}
-use Rattle.std.proofs.lemmas.List.{drop_more, take_more, take-append-drop, append-nil, drop_all, take_all}
+use Rattle.std.proofs.lemmas.List.{drop_more, take_more, take-append-drop, take_all}
 use Rattle.std.proofs.lemmas.Option.{slice_get_within, get_or_from_slice_get}
+use Rattle.std.specs.Prelude.{IsSome, is_some}
+use Rattle.cube_math.proofs.Ways.{next_of}
 use Rattle.leaf_shape.specs.declared.node.Node.{Node}
 use Rattle.leaf_shape.specs.Shapes.{IsBelow}
 use Rattle.leaf_shape.specs.Tables.{HasChildren, HasChildrenAt, IsOpened, IsTree, list_at, missing, node, node_at}
@@ -63,7 +65,7 @@ module _ (old nodes : List Node) (path : List ℕ) (step i : ℕ) (r : IsReached
     tree = tree_with_list nodes new i list has r.tree;
     kept = λ other j e. same_nodes nodes new i list has 0 other ∙ r.kept other j e;
     here = same_nodes nodes new i list has 0 path ∙ at;
-    list = list_here nodes new i list has path at;
+    noted = list_here nodes new i list has path at;
     others = λ other ne. lists_elsewhere nodes new i list has path other r.tree at ne ∙ r.lists other;
     used = λ other j first e is. r.used other record {
       number = j;
@@ -96,3 +98,22 @@ missing_next nodes new i g first rest tree has low = record { had = had; made = 
 
     made : (node nodes i).below ≡ None → missing new (first + g) rest + 1 ≤ missing nodes i (g ∷ rest)
     made none = omega (arith, missing_all nodes i g rest none, few_missing new (first + g) rest)
+
+-- a step takes no more than is missing
+pub total_next : (nodes new : List Node) (i g first : ℕ) (path : List ℕ) (step len len' : ℕ) → IsTree nodes
+    → HasChildren nodes new i first → g < 8 → slice_get path step ≡ Some g → (IsSome (node nodes i).below → len' ≡ len) → len' ≤ len + 8
+    → len' + 8 * missing new (first + g) (drop (step + 1) path) ≤ len + 8 * missing nodes i (drop step path)
+total_next nodes new i g first path step len len' tree has low at stays most =
+    of_below (node nodes i).below refl (missing_next nodes new i g first (drop (step + 1) path) tree has low)
+  where
+    here : missing nodes i (drop step path) ≡ missing nodes i (g ∷ drop (step + 1) path)
+    here = ap (missing nodes i) (next_of path step g at)
+
+    of_below : (o : Option ℕ) → (node nodes i).below ≡ o → IsMissing nodes new i g (drop (step + 1) path) first
+        → len' + 8 * missing new (first + g) (drop (step + 1) path) ≤ len + 8 * missing nodes i (drop step path)
+    of_below None none m = omega (arith, here, m.made none, most)
+    of_below (Some f) is m = omega (arith, here, m.had f is, stays (ap (λ (o : Option ℕ). is_some o) is))
+
+-- where a node on the way has no children, one is missing at least
+pub one_missing : (nodes : List Node) (i g : ℕ) (path : List ℕ) (step : ℕ) → slice_get path step ≡ Some g → (node nodes i).below ≡ None → 1 ≤ missing nodes i (drop step path)
+one_missing nodes i g path step at none = omega (arith, ap (missing nodes i) (next_of path step g at), missing_all nodes i g (drop (step + 1) path) none)

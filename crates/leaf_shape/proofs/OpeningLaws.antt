@@ -2,7 +2,7 @@
 use Rattle.std.proofs.Common.{◌≡◌, ℕ, zero, suc, ◌+◌, ◌-◌, ◌*◌, ◌<◌, ◌≤◌, ◌⊎◌, inl, inr, List, [], ◌∷◌, ◌++◌, length, map, take, drop, Some, None, Option, ap, ◌∙◌, sym, refl, arith, subst, get_or, add-one}
 use Rattle.std.specs.Prelude.{All}
 use Rattle.std.proofs.lemmas.Bool.{cases_lt}
-use Rattle.std.proofs.lemmas.List.{get_or-map, get_or_append_left, get_or_push, get_or_default, length_push, length-map, map_push, take-append-drop}
+use Rattle.std.proofs.lemmas.List.{get_or-map, get_or-take, length-take-le, take_more, get_or_append_left, get_or_push, get_or_default, length_push, length-map, map_push, take-append-drop}
 use Rattle.std.proofs.lemmas.List.Elements.{All-get_or}
 use Rattle.std.proofs.lemmas.List.Sums.{sum_by-drop_more}
 use Rattle.cube_math.specs.Cubes.{CubeValue, cube_at}
@@ -41,14 +41,14 @@ module _ (cube : CubeValue) (old new : List Node) (paths : List (List ℕ)) (pla
           let was : IsPlaced cube old (path_of paths list) q =
               placed.each list q low (at ∙ get_or_append_left places (place ∷ []) q list (omega (arith, low, placed.len))) in
           let P : List ℕ → Type 0 = λ r. IsPlaced cube new r q in
-          subst P (sym (path_before paths path list low)) record { cube = was.cube; at = opened.kept (path_of paths list) q.node was.at; path = was.path }
+          subst P (sym (path_before paths path list low)) record { is = was.is; at = opened.kept (path_of paths list) q.node was.at; in_cube = was.in_cube }
       each list q at (inr last) =
           let is : q ≡ place = at ∙ get_or_push places place q list (placed.len ∙ sym last) in
           let P : List ℕ → Type 0 = λ r. IsPlaced cube new r q in
           subst P (sym (ap (path_of (paths ++ path ∷ [])) last ∙ path_last paths path)) record {
-            cube = ap (λ (r : Place). r.cube) is ∙ cube_is;
+            is = ap (λ (r : Place). r.cube) is ∙ cube_is;
             at = opened.here ∙ ap Some (sym (ap (λ (r : Place). r.node) is ∙ number));
-            path = record { octants = octants_below new 0 path i opened.here; fits = fits };
+            in_cube = record { octants = octants_below new 0 path i opened.here; fits = fits };
           }
 
 -- ---- the paths before
@@ -106,3 +106,24 @@ shared_more ready o shared same k q low at = of_place (cases_lt k (length ready)
 
 pub none_shared : AreShared []
 none_shared k o low at = absurd (omega arith)
+
+-- of the paths so far the last one is the one before the next
+pub before_of_taken : (paths : List (List ℕ)) (i : ℕ) → path_of ([] ∷ take i paths) i ≡ path_of ([] ∷ paths) i
+before_of_taken paths zero = refl
+before_of_taken paths (suc i) = get_or-take (suc i) paths i [] (omega arith)
+
+-- one opening more, of the next path
+pub opening_more : (paths : List (List ℕ)) (ready : List Opening) (i : ℕ) (o : Opening) → AreShared ready → paths_of ready ≡ take i paths → i < length paths
+    → take o.shared (path_of ([] ∷ paths) i) ≡ take o.shared o.path → AreShared (ready ++ o ∷ [])
+opening_more paths ready i o shared so_far low same = shared_more ready o shared (ap (take o.shared) before ∙ same)
+  where
+    number : length ready ≡ i
+    number = sym (length-map ready (λ (q : Opening). q.path)) ∙ ap length so_far ∙ length-take-le i paths (omega arith)
+
+    before : path_of ([] ∷ paths_of ready) (length ready) ≡ path_of ([] ∷ paths) i
+    before = ap (λ (ps : List (List ℕ)). path_of ([] ∷ ps) (length ready)) so_far ∙ ap (path_of ([] ∷ take i paths)) number ∙ before_of_taken paths i
+
+pub paths_more : (paths : List (List ℕ)) (ready : List Opening) (i : ℕ) (o : Opening) → paths_of ready ≡ take i paths → i < length paths → o.path ≡ get_or paths i []
+    → paths_of (ready ++ o ∷ []) ≡ take (i + 1) paths
+paths_more paths ready i o so_far low at =
+    map_push (λ (q : Opening). q.path) ready o ∙ ap (λ (ps : List (List ℕ)). ps ++ o.path ∷ []) so_far ∙ ap (λ (q : List ℕ). take i paths ++ q ∷ []) at ∙ sym (take_more paths i [] low)

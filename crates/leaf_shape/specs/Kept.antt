@@ -16,9 +16,9 @@ shape_of a = record { cube = a.cube; paths = a.paths.items; ready = paths_of a.r
 
 -- a list's place: its cube, and its path's node
 pub record IsPlaced (cube : CubeValue) (nodes : List Node) (path : List ℕ) (place : Place) : Type 0 where
-  pub cube : place.cube ≡ cube_at cube path
+  pub is : place.cube ≡ cube_at cube path
   pub at : node_at nodes 0 path ≡ Some place.node
-  pub path : IsPathIn cube path
+  pub in_cube : IsPathIn cube path
 
 -- lists with their nodes and places, the first one the root's
 pub record ArePlaced (cube : CubeValue) (nodes : List Node) (paths : List (List ℕ)) (places : List Place) : Type 0 where

@@ -61,6 +61,6 @@ pub record IsOpened (old new : List Node) (path : List ℕ) (list i : ℕ) : Typ
   pub tree : IsTree new
   pub kept : (other : List ℕ) (j : ℕ) → node_at old 0 other ≡ Some j → node_at new 0 other ≡ Some j
   pub here : node_at new 0 path ≡ Some i
-  pub list : list_at new path ≡ Some list
+  pub noted : list_at new path ≡ Some list
   pub others : (other : List ℕ) → other ≢ path → list_at new other ≡ list_at old other
   pub used : (other : List ℕ) (j first : ℕ) → node_at new 0 other ≡ Some j → (node new j).below ≡ Some first → HasChildrenAt old other ⊎ IsBelow other path

@@ -54,11 +54,10 @@ fn child_at(nodes: &mut Vec<Node>, node: u32, octant: u8) -> u32
     ensures few { vec_len nodes.new ≤ vec_len nodes.old + 8 }
     ensures capacity { vec_capacity nodes.old ≤ vec_capacity nodes.new }
 {
-    let first = match nodes[node as usize].below {
-        Some(first) => first,
-        None => with_children(nodes, node),
-    };
-    first + u32::from(octant)
+    match nodes[node as usize].below {
+        Some(first) => first + u32::from(octant),
+        None => with_children(nodes, node) + u32::from(octant),
+    }
 }
 
 /// Gives eight children to a node that has none, and answers the number of the first.

@@ -60,7 +60,7 @@ fn fits(cube: &Cube, paths: &[Path]) -> bool
 }
 
 /// Opens lists for these paths. Answers the first one's number.
-fn open(alloc: Global, shape: &mut LeafShape, paths: &[Path]) -> Result<u32, Fail> {
+fn open_lists(alloc: Global, shape: &mut LeafShape, paths: &[Path]) -> Result<u32, Fail> {
     if !fits(&shape.root_cube(), paths) {
         return Err("a path below 7 bits".into());
     }
@@ -98,7 +98,7 @@ fn a_leaf_below_a_leaf_has_the_longer_path(rt: HostRuntime) -> Result<(), Fail> 
     let mut paths = octants(rt.alloc(), &Path::root())?;
     let below = octants(rt.alloc(), &paths.remove(1))?;
     paths.extend_from_slice(&below)?;
-    assert_eq!(rt; open(rt.alloc(), &mut shape, &paths)?, 1);
+    assert_eq!(rt; open_lists(rt.alloc(), &mut shape, &paths)?, 1);
     assert_eq!(rt; shape.lists(), 16);
     assert_eq!(rt; list_at(&shape, &at(0, 0, 0)), Some(1));
     assert_eq!(rt; list_at(&shape, &at(0, 256, 0)), Some(2));
@@ -118,7 +118,7 @@ fn of_two_lists_for_a_path_the_later_counts(rt: HostRuntime) -> Result<(), Fail>
     let cube = Cube::new(0, 0, 0, 8).ok_or("fits")?;
     let mut shape = LeafShape::new(rt.alloc(), cube)?;
     let path = Path::root().child(3);
-    assert_eq!(rt; open(rt.alloc(), &mut shape, &[path, Path::root(), path])?, 1);
+    assert_eq!(rt; open_lists(rt.alloc(), &mut shape, &[path, Path::root(), path])?, 1);
     assert_eq!(rt; list_at(&shape, &at(0, 0, 0)), Some(2));
     assert_eq!(rt; list_by(&shape, &at(200, 200, 0), 1), Some(3));
     Ok(())
@@ -158,7 +158,7 @@ fn split_one(alloc: Global, shape: &mut LeafShape, dice: &mut Dice) -> Result<bo
         let below = octants(alloc, &paths.remove(0))?;
         paths.extend_from_slice(&below)?;
     }
-    open(alloc, shape, &paths)?;
+    open_lists(alloc, shape, &paths)?;
     Ok(true)
 }
 
@@ -187,7 +187,7 @@ fn an_older_copy_catches_up(rt: HostRuntime) -> Result<(), Fail> {
     let mut shape = LeafShape::new(rt.alloc(), cube)?;
     let mut older = shape.try_clone(rt.alloc())?;
     let paths = octants(rt.alloc(), &Path::root())?;
-    open(rt.alloc(), &mut shape, &paths)?;
+    open_lists(rt.alloc(), &mut shape, &paths)?;
     assert_eq!(rt; list_at(&older, &at(300, 0, 0)), Some(0));
     older.catch_up(rt.alloc(), &shape)?;
     assert_eq!(rt; older.lists(), 9);

@@ -1,4 +1,4 @@
--- What is written to the table when a node is given children, or a list.
+-- Nodes that keep their children, and a list that is noted at a node.
 use Rattle.std.proofs.Common.{◌≡◌, ◌≢◌, ◌⊎◌, ℕ, ◌+◌, ◌-◌, ◌<◌, ◌≤◌, inl, inr, List, [], ◌∷◌, ◌++◌, length, Some, None, ap, ◌∙◌, sym, refl, arith, set, get_or}
 use Rattle.std.specs.Prelude.{replicate}
 use Rattle.std.proofs.lemmas.Bool.{cases_eq, cases_lt}
@@ -18,44 +18,6 @@ had_children nodes n first tree is = record {
   eight = tree.eight n first is;
   made = inl is;
 }
-
--- more bare nodes behind the others
-bare_behind : (old : List Node) (k j : ℕ) → length old ≤ j → node (old ++ replicate k bare) j ≡ bare
-bare_behind old k j past = get_or-append_right old (replicate k bare) (length old) j bare refl past ∙ of_place
-  where
-    of_place : get_or (replicate k bare) (j - length old) bare ≡ bare
-    of_place = elim (cases_lt (j - length old) k) [
-      | inl low ↦ get_or-replicate k (j - length old) bare bare low
-      | inr high ↦ get_or_past (replicate k bare) (j - length old) bare (omega (arith, high, length-replicate k bare))
-    ]
-
-pub children_given : (old base new : List Node) (n k : ℕ) (was x : Node) → n < length old → 8 ≤ k → base ≡ old ++ replicate k bare
-    → was ≡ get_or base n was → (node old n).below ≡ None → new ≡ set base n x → x.below ≡ Some (length old) → x.list ≡ was.list
-    → HasChildren old new n (length old)
-children_given old base new n k was x low eight longer read none write below list = record {
-  below = ap (λ (m : Node). m.below) here ∙ below;
-  list = ap (λ (m : Node). m.list) here ∙ list ∙ ap (λ (m : Node). m.list) was_old;
-  others = λ j ne before. elsewhere j ne ∙ ap (λ (b : List Node). node b j) longer ∙ get_or_append_left old (replicate k bare) bare j before;
-  fresh = λ j past. elsewhere j (λ (same : j ≡ n). absurd (omega (arith, same, past, low))) ∙ ap (λ (b : List Node). node b j) longer ∙ bare_behind old k j past;
-  longer = omega (arith, long);
-  eight = omega (arith, long, eight);
-  made = inr (none, refl);
-}
-  where
-    base_long : length base ≡ length old + k
-    base_long = ap length longer ∙ length-append old (replicate k bare) ∙ ap (λ m. length old + m) (length-replicate k bare)
-
-    long : length new ≡ length old + k
-    long = ap length write ∙ length-set base n x ∙ base_long
-
-    here : node new n ≡ x
-    here = ap (λ (b : List Node). node b n) write ∙ get_or-set_same base n x bare (omega (arith, base_long, low))
-
-    elsewhere : (j : ℕ) → j ≢ n → node new j ≡ node base j
-    elsewhere j ne = ap (λ (b : List Node). node b j) write ∙ get_or-set_other base n j x bare ne
-
-    was_old : was ≡ node old n
-    was_old = read ∙ get_or_default base n was bare (omega (arith, base_long, low)) ∙ ap (λ (b : List Node). node b n) longer ∙ get_or_append_left old (replicate k bare) bare n low
 
 pub list_noted : (old new : List Node) (n list : ℕ) (was x : Node) → n < length old → was ≡ get_or old n was → new ≡ set old n x
     → x.below ≡ was.below → x.list ≡ Some list → HasList old new n list

@@ -1,6 +1,5 @@
 pub mod ChildrenLaws
 pub mod CubeLaws
-pub mod LeafListLaws
 pub mod ListLaws
 pub mod NodeLaws
 pub mod OpenLaws

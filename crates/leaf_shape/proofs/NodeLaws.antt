@@ -1,6 +1,7 @@
 -- Nodes by their paths, and what becomes of them when a node is given children or a list.
 use Rattle.std.proofs.Common.{◌≡◌, ◌≢◌, ◌⊎◌, ℕ, zero, suc, ◌+◌, ◌-◌, ◌<◌, ◌≤◌, inl, inr, Bool, true, false, cond, List, [], ◌∷◌, ◌++◌, length, take, drop, Some, None, Option, ap, ◌∙◌, sym, refl, arith, nat_lt}
-use Rattle.std.specs.Prelude.{option_and_then, option_map_or, All}
+use Rattle.std.specs.Prelude.{option_and_then, All}
+use Rattle.std.specs.Option.{option_map_or}
 use Rattle.std.proofs.lemmas.Bool.{cases_eq, cases_lt, lt-ltb, le-ltb}
 use Rattle.std.proofs.lemmas.List.{get_or_past}
 use Rattle.std.proofs.lemmas.List.Elements.{All-nil, All-cons}
@@ -24,7 +25,7 @@ node_step nodes i g first path low is =
 pub no_step : (nodes : List Node) (i g : ℕ) (path : List ℕ) → (node nodes i).below ≡ None → node_at nodes i (g ∷ path) ≡ None
 no_step nodes i g path is = ap (λ o. cond (nat_lt g 8) (option_and_then (λ f. node_at nodes (f + g) path) o) None) is ∙ both (nat_lt g 8)
   where
-    both : (b : Bool) → cond b None None ≡ None {T = ℕ}
+    both : (b : Bool) → ◌≡◌ {A = Option ℕ} (cond b None None) None
     both true = refl
     both false = refl
 

@@ -115,5 +115,6 @@ total_next nodes new i g first path step len len' tree has low at stays most =
     of_below (Some f) is m = omega (arith, here, m.had f is, stays (ap (λ (o : Option ℕ). is_some o) is))
 
 -- where a node on the way has no children, one is missing at least
-pub one_missing : (nodes : List Node) (i g : ℕ) (path : List ℕ) (step : ℕ) → slice_get path step ≡ Some g → (node nodes i).below ≡ None → 1 ≤ missing nodes i (drop step path)
+pub one_missing : (nodes : List Node) (i g : ℕ) (path : List ℕ) (step : ℕ) → slice_get path step ≡ Some g
+    → (node nodes i).below ≡ None → 1 ≤ missing nodes i (drop step path)
 one_missing nodes i g path step at none = omega (arith, ap (missing nodes i) (next_of path step g at), missing_all nodes i g (drop (step + 1) path) none)

@@ -123,7 +123,29 @@ opening_more paths ready i o shared so_far low same = shared_more ready o shared
     before : path_of ([] ∷ paths_of ready) (length ready) ≡ path_of ([] ∷ paths) i
     before = ap (λ (ps : List (List ℕ)). path_of ([] ∷ ps) (length ready)) so_far ∙ ap (path_of ([] ∷ take i paths)) number ∙ before_of_taken paths i
 
-pub paths_more : (paths : List (List ℕ)) (ready : List Opening) (i : ℕ) (o : Opening) → paths_of ready ≡ take i paths → i < length paths → o.path ≡ get_or paths i []
+pub paths_more : (paths : List (List ℕ)) (ready : List Opening) (i : ℕ) (o : Opening) → paths_of ready ≡ take i paths
+    → i < length paths → o.path ≡ get_or paths i []
     → paths_of (ready ++ o ∷ []) ≡ take (i + 1) paths
 paths_more paths ready i o so_far low at =
-    map_push (λ (q : Opening). q.path) ready o ∙ ap (λ (ps : List (List ℕ)). ps ++ o.path ∷ []) so_far ∙ ap (λ (q : List ℕ). take i paths ++ q ∷ []) at ∙ sym (take_more paths i [] low)
+    map_push (λ (q : Opening). q.path) ready o ∙ ap (λ (ps : List (List ℕ)). ps ++ o.path ∷ []) so_far
+        ∙ ap (λ (q : List ℕ). take i paths ++ q ∷ []) at ∙ sym (take_more paths i [] low)
+
+pub path_after : (paths : List (List ℕ)) (i : ℕ) → path_of ([] ∷ paths) (i + 1) ≡ path_of paths i
+path_after paths i = rw add-one refl
+
+-- paths fit where their openings are to
+pub fit_from_paths : (cube : CubeValue) (paths : List (List ℕ)) (ready : List Opening) → paths_of ready ≡ paths → All (λ (path : List ℕ). length path + 7 ≤ cube.bits) paths
+    → All (λ (o : Opening). length o.path + 7 ≤ cube.bits) ready
+fit_from_paths cube paths ready same fit = λ k d low.
+    let at : path_of paths k ≡ (get_or ready k d).path = ap (λ (ps : List (List ℕ)). path_of ps k) (sym same) ∙ get_or-map (λ (o : Opening). o.path) ready k d [] low in
+    let long : length paths ≡ length ready = ap length (sym same) ∙ length-map ready (λ (o : Opening). o.path) in
+    omega (arith, ap length at, fit k [] (omega (arith, low, long)))
+
+-- the same nodes, paths and places
+pub placed_same : (cube : CubeValue) (nodes nodes' : List Node) (paths paths' : List (List ℕ)) (places places' : List Place) → nodes' ≡ nodes → paths' ≡ paths → places' ≡ places
+    → ArePlaced cube nodes paths places → ArePlaced cube nodes' paths' places'
+placed_same cube nodes nodes' paths paths' places places' n p q placed =
+    let N : List Node → Type 0 = λ ns. ArePlaced cube ns paths' places' in
+    let P : List (List ℕ) → Type 0 = λ ps. ArePlaced cube nodes ps places' in
+    let Q : List Place → Type 0 = λ qs. ArePlaced cube nodes paths qs in
+    subst N (sym n) (subst P (sym p) (subst Q (sym q) placed))

@@ -59,7 +59,8 @@ root_listed = record {
     found zero low = refl
     found (suc list) low = absurd (omega arith)
 
-pub root_placed : (cube : CubeValue) → 7 ≤ cube.bits → ArePlaced cube (record { below = None; list = Some 0 } ∷ []) ([] ∷ []) (record { cube = cube; node = 0 } ∷ [])
+pub root_placed : (cube : CubeValue) → 7 ≤ cube.bits
+    → ArePlaced cube (record { below = None; list = Some 0 } ∷ []) ([] ∷ []) (record { cube = cube; node = 0 } ∷ [])
 unfolding root_table root_node
 root_placed cube seven = record {
   listed = root_listed;
@@ -72,6 +73,7 @@ root_placed cube seven = record {
     here : IsPlaced cube root_table [] record { cube = cube; node = 0 }
     here = record { is = refl; at = refl; in_cube = record { octants = All-nil (λ g. g < 8); fits = omega arith } }
 
-    each : (list : ℕ) (place : Place) → list < 1 → place ≡ get_or (record { cube = cube; node = 0 } ∷ []) list place → IsPlaced cube root_table (path_of ([] ∷ []) list) place
+    each : (list : ℕ) (place : Place) → list < 1 → place ≡ get_or (record { cube = cube; node = 0 } ∷ []) list place
+        → IsPlaced cube root_table (path_of ([] ∷ []) list) place
     each zero place low at = let P : Place → Type 0 = λ q. IsPlaced cube root_table [] q in subst P (sym at) here
     each (suc list) place low at = absurd (omega arith)

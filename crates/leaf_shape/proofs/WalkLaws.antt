@@ -1,8 +1,8 @@
 -- The walk from the root down to the list of a point.
-use Rattle.std.proofs.Common.{◌≡◌, ◌≢◌, ◌⊎◌, ℕ, suc, ◌+◌, ◌-◌, ◌<◌, ◌≤◌, inl, inr, true, List, [], ◌∷◌, ◌++◌, length, Some, None, Option, ap, ◌∙◌, sym, refl, arith, subst, IsTrue}
-use Rattle.std.specs.Prelude.{option_and_then, is_some}
+use Rattle.std.proofs.Common.{◌≡◌, ◌≢◌, ◌⊎◌, ℕ, suc, ◌+◌, ◌-◌, ◌<◌, ◌≤◌, inl, inr, true, false, not, Bool, List, [], ◌∷◌, ◌++◌, length, Some, None, Option, ap, ◌∙◌, sym, refl, arith, subst, get_or}
+use Rattle.std.specs.Prelude.{option_and_then, is_some, unwrap_or}
 use Rattle.std.proofs.lemmas.Bool.{cases_lt, and_from, eq-eqb}
-use Rattle.std.proofs.lemmas.List.{length_push, length-append, append-nil}
+use Rattle.std.proofs.lemmas.List.{get_or_default, length_push, length-append, append-nil}
 use Rattle.cube_math.specs.Cubes.{CubeValue, contains, child, cube_at, octant}
 use Rattle.cube_math.specs.Points.{PointValue}
 use Rattle.cube_math.proofs.Halves.{child_has, octant_below}
@@ -11,9 +11,12 @@ use Rattle.leaf_shape.specs.declared.node.Node.{Node}
 use Rattle.leaf_shape.specs.declared.place.Place.{Place}
 use Rattle.leaf_shape.specs.Kept.{ArePlaced, IsPlaced}
 use Rattle.leaf_shape.specs.Shapes.{GoesOn, IsBelow, IsLatest, IsListOf, IsPathIn, IsSplit, path_of}
-use Rattle.leaf_shape.specs.Tables.{AreListed, HasChildrenAt, IsTree, list_at, node, node_at}
+use Rattle.leaf_shape.specs.Tables.{AreListed, IsTree, bare, list_at, node, node_at}
 use Rattle.leaf_shape.proofs.CubeLaws.{IsWay, goes_on, same_path}
 use Rattle.leaf_shape.proofs.NodeLaws.{some_is, none_is, IsStep, node_step, no_step, at_append, IsOnTheWay, on_the_way, within, octants_below}
+
+false_is : false ≡ true → ⊥
+false_is e = cc
 
 -- where a walk with a point stands: at the node of a path whose cube contains the point; and of the lists for paths no longer
 -- than that one the list is the last of the longest whose cube contains the point
@@ -40,10 +43,10 @@ module _ (cube : CubeValue) (nodes : List Node) (paths : List (List ℕ)) (liste
     where
       of_node : (o : Option ℕ) → node_at nodes 0 (path_of paths list) ≡ o → (i : ℕ) × (node_at nodes 0 (path_of paths list) ≡ Some i)
       of_node None none =
-          let bad : is_some (None {T = ℕ}) ≡ true =
+          let bad : false ≡ true =
               sym (ap (λ (o : Option ℕ). is_some (option_and_then (λ i. (node nodes i).list) o)) none)
               ∙ listed.found list low in
-          absurd (cc)
+          absurd (false_is bad)
       of_node (Some i) is = (i, is)
 
   way_to : (path : List ℕ) (i : ℕ) → node_at nodes 0 path ≡ Some i → length path ≤ cube.bits → IsWay cube path
@@ -81,10 +84,10 @@ module _ (cube : CubeValue) (nodes : List Node) (paths : List (List ℕ)) (liste
   pub none_at : (path : List ℕ) (i other : ℕ) → node_at nodes 0 path ≡ Some i → (node nodes i).list ≡ None
       → other < length paths → path_of paths other ≡ path → ⊥
   none_at path i other at none low is =
-      let bad : is_some (None {T = ℕ}) ≡ true =
+      let bad : false ≡ true =
           sym (ap (λ (o : Option ℕ). is_some o) (ap (list_at nodes) is
           ∙ ap (option_and_then (λ j. (node nodes j).list)) at ∙ none)) ∙ listed.found other low in
-      cc
+      false_is bad
 
   latest_of_path : (path : List ℕ) (list : ℕ) → IsLatest paths path list → IsLatest paths (path_of paths list) list
   latest_of_path path list l = let P : List ℕ → Type 0 = λ q. IsLatest paths q list in subst P (sym l.is) l
@@ -111,13 +114,13 @@ module _ (cube : CubeValue) (nodes : List Node) (paths : List (List ℕ)) (liste
     deep : length w.path + 8 ≤ cube.bits
     deep = splits w.path i first w.at below
 
-    pub splits_here : 7 < here.bits
+    splits_here : 7 < here.bits
     splits_here = omega (arith, deep, w.bits)
 
     low : g < 8
     low = let l : octant here p < 8 = octant_below here p (omega (arith, splits_here)) w.contained in omega (arith, octant_is)
 
-      at' : node_at nodes 0 (w.path ++ g ∷ []) ≡ Some n
+    at' : node_at nodes 0 (w.path ++ g ∷ []) ≡ Some n
     at' = at_append nodes 0 w.path (g ∷ []) i w.at ∙ node_step nodes i g first [] low below ∙ ap Some (sym number)
 
     cube' : here' ≡ cube_at cube (w.path ++ g ∷ [])
@@ -203,3 +206,113 @@ module _ (cube : CubeValue) (nodes : List Node) (paths : List (List ℕ)) (liste
       of_below : (o : Option ℕ) → (node nodes i).below ≡ o → (node nodes i).below ≡ None
       of_below None is = is
       of_below (Some first) is = absurd (unsplit (listed.used path i first at is))
+
+none_of : (o : Option ℕ) → is_some o ≡ false → o ≡ None
+none_of None e = refl
+none_of (Some x) e = absurd (false_is (sym e))
+
+true_of : (b : Bool) → not b ≡ false → b ≡ true
+true_of true e = refl
+true_of false e = absurd (false_is (sym e))
+
+-- where a walk stands, by the node that is read there
+pub record IsAt (cube : CubeValue) (nodes : List Node) (paths : List (List ℕ)) (p : PointValue) (here : Node) (near : CubeValue) (list : ℕ) : Type 0 where
+  pub number : ℕ
+  pub is : here ≡ node nodes number
+  pub walk : IsWalk cube nodes paths p number near list
+
+module _ (cube : CubeValue) (nodes : List Node) (paths : List (List ℕ)) (places : List Place) (placed : ArePlaced cube nodes paths places) where
+
+  pub fit_of : (list : ℕ) → list < length paths → IsPathIn cube (path_of paths list)
+  fit_of list low =
+      let d : Place = record { cube = cube; node = 0 } in
+      (placed.each list (get_or places list d) low (get_or_default places list d (get_or places list d) (omega (arith, low, placed.len)))).in_cube
+
+  -- at the root stands a list
+  root_list : (o : Option ℕ) → (node nodes 0).list ≡ o → (list : ℕ) × ((node nodes 0).list ≡ Some list)
+  root_list None none = absurd (none_at cube nodes paths placed.listed fit_of [] 0 0 refl none placed.some placed.root)
+  root_list (Some list) is = (list, is)
+
+  pub walk_starts : (p : PointValue) (here : Node) (list : ℕ) → contains cube p ≡ true → here ≡ node nodes 0
+      → list ≡ unwrap_or here.list 0 → IsAt cube nodes paths p here cube list
+  walk_starts p here list has is list_is =
+      let r : (k : ℕ) × ((node nodes 0).list ≡ Some k) = root_list (node nodes 0).list refl in
+      let same : list ≡ r.0 = list_is ∙ ap (λ (n : Node). unwrap_or n.list 0) is ∙ ap (λ o. unwrap_or o 0) r.1 in
+      record { number = 0; is = is; walk = walk_begins cube nodes paths placed.listed fit_of p list (r.1 ∙ ap Some (sym same)) has }
+
+  pub walk_on : (p : PointValue) (here next : Node) (near near' : CubeValue) (list list' first g n : ℕ)
+      → IsAt cube nodes paths p here near list → here.below ≡ Some first
+      → g ≡ octant near p → n ≡ first + g → next ≡ node nodes n → near' ≡ child near g
+          → list' ≡ unwrap_or next.list list → IsAt cube nodes paths p next near' list'
+  walk_on p here next near near' list list' first g n at below octant_is number read child_is list_is = record {
+    number = n;
+    is = read;
+    walk = of_list (node nodes n).list refl;
+  }
+    where
+      was : (node nodes at.number).below ≡ Some first
+      was = sym (ap (λ (m : Node). m.below) at.is) ∙ below
+
+      same : (o : Option ℕ) → (node nodes n).list ≡ o → list' ≡ unwrap_or o list
+      same o is = list_is ∙ ap (λ (m : Node). unwrap_or m.list list) read ∙ ap (λ o. unwrap_or o list) is
+
+      of_list : (o : Option ℕ) → (node nodes n).list ≡ o → IsWalk cube nodes paths p n near' list'
+      of_list None none =
+          let P : ℕ → Type 0 = λ k. IsWalk cube nodes paths p n near' k in
+          subst P (sym (same None none))
+          (with_no_list cube nodes paths placed.listed fit_of p at.number near list at.walk first g n near' was octant_is number child_is none)
+      of_list (Some k) is =
+          with_a_list cube nodes paths placed.listed fit_of p at.number near list at.walk first g n near' was octant_is number child_is list' (is ∙ ap Some (sym (same (Some k) is)))
+
+  -- the next node of a walk is one of the table
+  pub next_within : (p : PointValue) (here : Node) (near : CubeValue) (list first g : ℕ)
+      → IsAt cube nodes paths p here near list → here.below ≡ Some first → g < 8 → first + g < length nodes
+  next_within p here near list first g at below low =
+      omega (arith, placed.listed.tree.eight at.number first (sym (ap (λ (m : Node). m.below) at.is) ∙ below), low)
+
+  pub walk_splits : (p : PointValue) (here : Node) (near : CubeValue) (list first : ℕ)
+      → IsAt cube nodes paths p here near list → here.below ≡ Some first → 7 < near.bits
+  walk_splits p here near list first at below =
+      let deep : length at.walk.path + 8 ≤ cube.bits =
+          splits cube nodes paths placed.listed fit_of at.walk.path at.number first at.walk.at (sym (ap (λ (m : Node). m.below) at.is) ∙ below) in
+      omega (arith, deep, at.walk.bits)
+
+  pub walk_done : (p : PointValue) (here : Node) (near : CubeValue) (list : ℕ)
+      → IsAt cube nodes paths p here near list → here.below ≡ None → IsListOf cube paths p list
+  walk_done p here near list at none =
+      walk_ends cube nodes paths placed.listed fit_of p at.number near list at.walk (sym (ap (λ (m : Node). m.below) at.is) ∙ none)
+
+  -- whether the node that is read for a list has no children
+  pub leaf_told : (list : ℕ) (place : Place) (here : Node) (answer : Bool) → list < length paths → place ≡ get_or places list place → here ≡ get_or nodes place.node here
+      → is_some here.below ≡ not answer → (answer ≡ true → IsSplit paths (path_of paths list) → ⊥) × ((IsSplit paths (path_of paths list) → ⊥) → answer ≡ true)
+  leaf_told list place here answer low place_at here_at is = (unsplit, leaf)
+    where
+      q : IsPlaced cube nodes (path_of paths list) place
+      q = placed.each list place low place_at
+
+      here_is : here ≡ node nodes place.node
+      here_is = here_at ∙ get_or_default nodes place.node here bare (within nodes 0 (path_of paths list) place.node placed.listed.tree placed.listed.tree.some q.at)
+
+      none_there : answer ≡ true → (node nodes place.node).below ≡ None
+      none_there said = none_of (node nodes place.node).below (ap (λ (n : Node). is_some n.below) (sym here_is) ∙ is ∙ ap not said)
+
+      unsplit : answer ≡ true → IsSplit paths (path_of paths list) → ⊥
+      unsplit said = unsplit_end cube nodes paths placed.listed fit_of (path_of paths list) place.node q.at (none_there said)
+
+      leaf : (IsSplit paths (path_of paths list) → ⊥) → answer ≡ true
+      leaf never = true_of answer
+          (sym is ∙ ap (λ (n : Node). is_some n.below) here_is
+          ∙ ap (λ (o : Option ℕ). is_some o) (end_of_unsplit cube nodes paths placed.listed fit_of (path_of paths list) place.node q.at never))
+
+  -- a list whose node was read, with no children, and in whose cube a point lies
+  pub hint_holds : (p : PointValue) (list : ℕ) (place : Place) (here : Node) → list < length paths → place ≡ get_or places list place → here ≡ get_or nodes place.node here
+      → is_some here.below ≡ false → here.list ≡ Some list → contains place.cube p ≡ true → IsListOf cube paths p list
+  hint_holds p list place here low place_at here_at none list_is has =
+      list_at_end cube nodes paths placed.listed fit_of p (path_of paths list) place.node list q.at (omega (arith, q.in_cube.fits)) (ap (λ (n : Node). n.list) (sym here_is) ∙ list_is)
+      (none_of (node nodes place.node).below (ap (λ (n : Node). is_some n.below) (sym here_is) ∙ none)) (ap (λ k. contains k p) (sym q.is) ∙ has)
+    where
+      q : IsPlaced cube nodes (path_of paths list) place
+      q = placed.each list place low place_at
+
+      here_is : here ≡ node nodes place.node
+      here_is = here_at ∙ get_or_default nodes place.node here bare (within nodes 0 (path_of paths list) place.node placed.listed.tree placed.listed.tree.some q.at)

@@ -1,5 +1,6 @@
 -- The table of a shape's nodes, by octants.
-use Rattle.std.specs.Prelude.{ℕ, ◌≡◌, ◌≢◌, ◌+◌, ◌<◌, ◌≤◌, ◌⊎◌, List, [], ◌∷◌, length, Option, Some, None, IsSome, option_and_then, option_map_or, nat_lt, if◌then◌else◌, slice_index_or}
+use Rattle.std.specs.Prelude.{ℕ, ◌≡◌, ◌≢◌, ◌+◌, ◌<◌, ◌≤◌, ◌⊎◌, List, [], ◌∷◌, length, Option, Some, None, IsSome, option_and_then, nat_lt, if◌then◌else◌, slice_index_or}
+use Rattle.std.specs.Option.{option_map_or}
 use Rattle.leaf_shape.specs.declared.node.Node.{Node}
 use Rattle.leaf_shape.specs.Shapes.{IsBelow, IsLatest, IsSplit, path_of}
 

@@ -42,31 +42,31 @@ pub(crate) fn open_node(nodes: &mut Vec<Node>, path: &Path, list: u32) -> u32
 }
 
 /// The child of a node in an octant. A node that has no children is given eight.
-fn child_at(nodes: &mut Vec<Node>, node: u32, octant: u8) -> u32
-    requires within { node < vec_len nodes.old }
+fn child_at(nodes: &mut Vec<Node>, parent: u32, octant: u8) -> u32
+    requires within { parent < vec_len nodes.old }
     requires tree { IsTree nodes.old.items }
     requires below { octant < 8 }
-    requires room { (node nodes.old.items node).below ≡ None → vec_len nodes.old + 8 ≤ vec_capacity nodes.old }
-    requires few { (node nodes.old.items node).below ≡ None → vec_len nodes.old + 8 < 2 ^ 32 }
+    requires room { (node nodes.old.items parent).below ≡ None → vec_len nodes.old + 8 ≤ vec_capacity nodes.old }
+    requires few { (node nodes.old.items parent).below ≡ None → vec_len nodes.old + 8 < 2 ^ 32 }
     requires numbered { vec_len nodes.old < 2 ^ 32 }
-    ensures child { (first : ℕ) × HasChildren nodes.old.items nodes.new.items node first × (result ≡ first + octant) }
-    ensures stays { IsSome (node nodes.old.items node).below → vec_len nodes.new ≡ vec_len nodes.old }
+    ensures child { (first : ℕ) × HasChildren nodes.old.items nodes.new.items parent first × (result ≡ first + octant) }
+    ensures stays { IsSome (node nodes.old.items parent).below → vec_len nodes.new ≡ vec_len nodes.old }
     ensures few { vec_len nodes.new ≤ vec_len nodes.old + 8 }
     ensures capacity { vec_capacity nodes.old ≤ vec_capacity nodes.new }
 {
-    match nodes[node as usize].below {
+    match nodes[parent as usize].below {
         Some(first) => first + u32::from(octant),
-        None => with_children(nodes, node) + u32::from(octant),
+        None => with_children(nodes, parent) + u32::from(octant),
     }
 }
 
 /// Gives eight children to a node that has none, and answers the number of the first.
-fn with_children(nodes: &mut Vec<Node>, node: u32) -> u32
-    requires within { node < vec_len nodes.old }
-    requires none { (node nodes.old.items node).below ≡ None }
+fn with_children(nodes: &mut Vec<Node>, parent: u32) -> u32
+    requires within { parent < vec_len nodes.old }
+    requires none { (node nodes.old.items parent).below ≡ None }
     requires room { vec_len nodes.old + 8 ≤ vec_capacity nodes.old }
     requires few { vec_len nodes.old + 8 < 2 ^ 32 }
-    ensures children { HasChildren nodes.old.items nodes.new.items node result }
+    ensures children { HasChildren nodes.old.items nodes.new.items parent result }
     ensures first { result ≡ vec_len nodes.old }
     ensures len { vec_len nodes.new ≡ vec_len nodes.old + 8 }
     ensures capacity { vec_capacity nodes.old ≤ vec_capacity nodes.new }
@@ -75,7 +75,7 @@ fn with_children(nodes: &mut Vec<Node>, node: u32) -> u32
     let Ok(()) = nodes.resize(first + 8, bare_node()) else {
         unreachable!()
     };
-    let parent = &mut nodes[node as usize];
-    parent.below = Some(first as u32);
+    let place = &mut nodes[parent as usize];
+    place.below = Some(first as u32);
     first as u32
 }

@@ -39,6 +39,8 @@ impl LeafShape {
     pub fn new(alloc: Global, cube: Cube) -> Result<LeafShape, AllocError>
         ensures { IfOk result (λ shape. shape ≡ record { cube = cube; paths = [] ∷ []; ready = [] }) }
     {
+        // So that the root's path fits the cube.
+        prove!(cube.bits >= 7);
         let mut nodes = Vec::with_capacity(alloc, 1)?;
         nodes.push(Node { below: None, list: Some(0) })?;
         let mut paths = Vec::with_capacity(alloc, 1)?;
@@ -99,16 +101,14 @@ impl LeafShape {
         requires { IsTrue (contains self.now.cube p.now) }
         ensures { IsListOf self.now.cube self.now.paths p.now result }
     {
-        let mut list = 0;
         let mut node = self.nodes[0];
+        let mut list = node.list.unwrap_or(0);
         let mut cube = self.cube;
         while let Some(first) = node.below {
             let octant = cube.octant(p);
             node = self.nodes[(first + u32::from(octant)) as usize];
             cube = cube.child(octant);
-            if let Some(latest) = node.list {
-                list = latest;
-            }
+            list = node.list.unwrap_or(list);
         }
         list
     }
@@ -204,8 +204,11 @@ impl LeafShape {
             return false;
         };
         let node = self.nodes[place.node as usize];
+        if node.below.is_some() {
+            return false;
+        }
         match node.list {
-            Some(latest) => latest == list && node.below.is_none() && place.cube.contains(p),
+            Some(latest) => (latest == list) & place.cube.contains(p),
             None => false,
         }
     }

@@ -11,6 +11,6 @@ mod shape;
 mod tests;
 
 pub use laws::{
-    lists_elsewhere_stay, lists_of_a_point_are_one, lists_only_go_down,
+    lists_are_those_of_leaves, lists_elsewhere_stay, lists_of_a_point_are_one, lists_only_go_down,
 };
 pub use shape::LeafShape;

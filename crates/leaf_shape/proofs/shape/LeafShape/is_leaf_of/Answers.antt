@@ -1,6 +1,7 @@
-use Rattle.std.proofs.Common.{◌≡◌, ◌∙◌, ◌<◌, Some, ap, arith, sym, subst, get_or, length, true, false}
+use Rattle.std.proofs.Common.{◌≡◌, ◌∙◌, ◌<◌, Some, ap, arith, sym, subst, get_or, length, true, false, List}
 use Rattle.std.specs.Prelude.{is_some}
 use Rattle.std.proofs.lemmas.Bool.{and_parts, eqb-true}
+use Rattle.leaf_shape.specs.declared.place.Place.{Place}
 use Rattle.leaf_shape.specs.Shapes.{IsListOf, ShapeValue}
 use Rattle.leaf_shape.proofs.WalkLaws.{hint_holds}
 use Rattle.leaf_shape.proofs.shape.LeafShape.is_leaf_of.Goals as goal
@@ -14,4 +15,4 @@ returns-in-Some-list c = λ said.
     let P : ShapeValue → Type 0 = λ s. IsListOf s.cube s.paths c.args.p.now c.args.list in
     subst P c.self.view_is
     (hint_holds c.self.inside.cube c.self.inside.nodes.items c.self.inside.paths.items c.self.inside.places.items c.self.invariant.placed c.args.p.now c.args.list c.in-Some.place.now c.index.result.now
-    (omega (arith, low, c.self.invariant.placed.len)) ? c.index.ensures none (c.in-Some-list.is ∙ ap Some same) (sym c.contains.ensures ∙ both.1))
+    (omega (arith, low, c.self.invariant.placed.len)) (c.in-Some.ensures.lookup.1 ∙ ap (λ (qs : List Place). get_or qs c.args.list c.in-Some.place.now) c.deref.ensures.value) c.index.ensures none (c.in-Some-list.is ∙ ap Some same) (sym c.contains.ensures ∙ both.1))

@@ -134,15 +134,18 @@ pub path_after : (paths : List (List ℕ)) (i : ℕ) → path_of ([] ∷ paths) 
 path_after paths i = rw add-one refl
 
 -- paths fit where their openings are to
-pub fit_from_paths : (cube : CubeValue) (paths : List (List ℕ)) (ready : List Opening) → paths_of ready ≡ paths → All (λ (path : List ℕ). length path + 7 ≤ cube.bits) paths
+pub fit_from_paths : (cube : CubeValue) (paths : List (List ℕ)) (ready : List Opening) → paths_of ready ≡ paths
+    → All (λ (path : List ℕ). length path + 7 ≤ cube.bits) paths
     → All (λ (o : Opening). length o.path + 7 ≤ cube.bits) ready
 fit_from_paths cube paths ready same fit = λ k d low.
-    let at : path_of paths k ≡ (get_or ready k d).path = ap (λ (ps : List (List ℕ)). path_of ps k) (sym same) ∙ get_or-map (λ (o : Opening). o.path) ready k d [] low in
+    let at : path_of paths k ≡ (get_or ready k d).path = ap (λ (ps : List (List ℕ)). path_of ps k) (sym same)
+        ∙ get_or-map (λ (o : Opening). o.path) ready k d [] low in
     let long : length paths ≡ length ready = ap length (sym same) ∙ length-map ready (λ (o : Opening). o.path) in
     omega (arith, ap length at, fit k [] (omega (arith, low, long)))
 
 -- the same nodes, paths and places
-pub placed_same : (cube : CubeValue) (nodes nodes' : List Node) (paths paths' : List (List ℕ)) (places places' : List Place) → nodes' ≡ nodes → paths' ≡ paths → places' ≡ places
+pub placed_same : (cube : CubeValue) (nodes nodes' : List Node) (paths paths' : List (List ℕ))
+    (places places' : List Place) → nodes' ≡ nodes → paths' ≡ paths → places' ≡ places
     → ArePlaced cube nodes paths places → ArePlaced cube nodes' paths' places'
 placed_same cube nodes nodes' paths paths' places places' n p q placed =
     let N : List Node → Type 0 = λ ns. ArePlaced cube ns paths' places' in

@@ -44,7 +44,9 @@ named_at [] list e =
     let same : 0 ≡ list = some_is 0 list e in
     let P : ℕ → Type 0 = λ n. IsLatest ([] ∷ []) [] n in
     subst P same root_latest
-named_at (g ∷ path) list e = absurd (none_is list (sym (ap (λ o. option_and_then (λ i. (node root_table i).list) o) (no_step root_table 0 g path (childless 0))) ∙ e))
+named_at (g ∷ path) list e = absurd
+    (none_is list (sym (ap (λ o. option_and_then (λ i. (node root_table i).list) o)
+    (no_step root_table 0 g path (childless 0))) ∙ e))
 
 root_listed : AreListed root_table ([] ∷ [])
 unfolding root_table root_node

@@ -221,7 +221,7 @@ pub record IsAt (cube : CubeValue) (nodes : List Node) (paths : List (List ℕ))
   pub is : here ≡ node nodes number
   pub walk : IsWalk cube nodes paths p number near list
 
-module _ (cube : CubeValue) (nodes : List Node) (paths : List (List ℕ)) (places : List Place) (placed : ArePlaced cube nodes paths places) where
+module _ {cube : CubeValue} {nodes : List Node} {paths : List (List ℕ)} {places : List Place} (placed : ArePlaced cube nodes paths places) where
 
   pub fit_of : (list : ℕ) → list < length paths → IsPathIn cube (path_of paths list)
   fit_of list low =
@@ -240,11 +240,10 @@ module _ (cube : CubeValue) (nodes : List Node) (paths : List (List ℕ)) (place
       let same : list ≡ r.0 = list_is ∙ ap (λ (n : Node). unwrap_or n.list 0) is ∙ ap (λ o. unwrap_or o 0) r.1 in
       record { number = 0; is = is; walk = walk_begins cube nodes paths placed.listed fit_of p list (r.1 ∙ ap Some (sym same)) has }
 
-  pub walk_on : (p : PointValue) (here next : Node) (near near' : CubeValue) (list list' first g n : ℕ)
-      → IsAt cube nodes paths p here near list → here.below ≡ Some first
-      → g ≡ octant near p → n ≡ first + g → next ≡ node nodes n → near' ≡ child near g
-          → list' ≡ unwrap_or next.list list → IsAt cube nodes paths p next near' list'
-  walk_on p here next near near' list list' first g n at below octant_is number read child_is list_is = record {
+  pub walk_on : {p : PointValue} {here : Node} {near : CubeValue} {list : ℕ} (next : Node) (near' : CubeValue) (list' first g n : ℕ)
+      → IsAt cube nodes paths p here near list → here.below ≡ Some first → g ≡ octant near p → n ≡ first + g → next ≡ node nodes n
+      → near' ≡ child near g → list' ≡ unwrap_or next.list list → IsAt cube nodes paths p next near' list'
+  walk_on {p} {here} {near} {list} next near' list' first g n at below octant_is number read child_is list_is = record {
     number = n;
     is = read;
     walk = of_list (node nodes n).list refl;
@@ -262,28 +261,30 @@ module _ (cube : CubeValue) (nodes : List Node) (paths : List (List ℕ)) (place
           subst P (sym (same None none))
           (with_no_list cube nodes paths placed.listed fit_of p at.number near list at.walk first g n near' was octant_is number child_is none)
       of_list (Some k) is =
-          with_a_list cube nodes paths placed.listed fit_of p at.number near list at.walk first g n near' was octant_is number child_is list' (is ∙ ap Some (sym (same (Some k) is)))
+          with_a_list cube nodes paths placed.listed fit_of p at.number near list at.walk first g n near' was
+              octant_is number child_is list' (is ∙ ap Some (sym (same (Some k) is)))
 
   -- the next node of a walk is one of the table
-  pub next_within : (p : PointValue) (here : Node) (near : CubeValue) (list first g : ℕ)
+  pub next_within : {p : PointValue} {here : Node} {near : CubeValue} {list : ℕ} (first g : ℕ)
       → IsAt cube nodes paths p here near list → here.below ≡ Some first → g < 8 → first + g < length nodes
-  next_within p here near list first g at below low =
+  next_within first g at below low =
       omega (arith, placed.listed.tree.eight at.number first (sym (ap (λ (m : Node). m.below) at.is) ∙ below), low)
 
-  pub walk_splits : (p : PointValue) (here : Node) (near : CubeValue) (list first : ℕ)
+  pub walk_splits : {p : PointValue} {here : Node} {near : CubeValue} {list : ℕ} (first : ℕ)
       → IsAt cube nodes paths p here near list → here.below ≡ Some first → 7 < near.bits
-  walk_splits p here near list first at below =
+  walk_splits first at below =
       let deep : length at.walk.path + 8 ≤ cube.bits =
           splits cube nodes paths placed.listed fit_of at.walk.path at.number first at.walk.at (sym (ap (λ (m : Node). m.below) at.is) ∙ below) in
       omega (arith, deep, at.walk.bits)
 
-  pub walk_done : (p : PointValue) (here : Node) (near : CubeValue) (list : ℕ)
+  pub walk_done : {p : PointValue} {here : Node} {near : CubeValue} {list : ℕ}
       → IsAt cube nodes paths p here near list → here.below ≡ None → IsListOf cube paths p list
-  walk_done p here near list at none =
+  walk_done {p} {here} {near} {list} at none =
       walk_ends cube nodes paths placed.listed fit_of p at.number near list at.walk (sym (ap (λ (m : Node). m.below) at.is) ∙ none)
 
   -- whether the node that is read for a list has no children
-  pub leaf_told : (list : ℕ) (place : Place) (here : Node) (answer : Bool) → list < length paths → place ≡ get_or places list place → here ≡ get_or nodes place.node here
+  pub leaf_told : (list : ℕ) (place : Place) (here : Node) (answer : Bool) → list < length paths
+      → place ≡ get_or places list place → here ≡ get_or nodes place.node here
       → is_some here.below ≡ not answer → (answer ≡ true → IsSplit paths (path_of paths list) → ⊥) × ((IsSplit paths (path_of paths list) → ⊥) → answer ≡ true)
   leaf_told list place here answer low place_at here_at is = (unsplit, leaf)
     where
@@ -291,7 +292,8 @@ module _ (cube : CubeValue) (nodes : List Node) (paths : List (List ℕ)) (place
       q = placed.each list place low place_at
 
       here_is : here ≡ node nodes place.node
-      here_is = here_at ∙ get_or_default nodes place.node here bare (within nodes 0 (path_of paths list) place.node placed.listed.tree placed.listed.tree.some q.at)
+      here_is = here_at ∙ get_or_default nodes place.node here bare
+          (within nodes 0 (path_of paths list) place.node placed.listed.tree placed.listed.tree.some q.at)
 
       none_there : answer ≡ true → (node nodes place.node).below ≡ None
       none_there said = none_of (node nodes place.node).below (ap (λ (n : Node). is_some n.below) (sym here_is) ∙ is ∙ ap not said)
@@ -305,14 +307,17 @@ module _ (cube : CubeValue) (nodes : List Node) (paths : List (List ℕ)) (place
           ∙ ap (λ (o : Option ℕ). is_some o) (end_of_unsplit cube nodes paths placed.listed fit_of (path_of paths list) place.node q.at never))
 
   -- a list whose node was read, with no children, and in whose cube a point lies
-  pub hint_holds : (p : PointValue) (list : ℕ) (place : Place) (here : Node) → list < length paths → place ≡ get_or places list place → here ≡ get_or nodes place.node here
+  pub hint_holds : (p : PointValue) (list : ℕ) (place : Place) (here : Node) → list < length paths
+      → place ≡ get_or places list place → here ≡ get_or nodes place.node here
       → is_some here.below ≡ false → here.list ≡ Some list → contains place.cube p ≡ true → IsListOf cube paths p list
   hint_holds p list place here low place_at here_at none list_is has =
-      list_at_end cube nodes paths placed.listed fit_of p (path_of paths list) place.node list q.at (omega (arith, q.in_cube.fits)) (ap (λ (n : Node). n.list) (sym here_is) ∙ list_is)
+      list_at_end cube nodes paths placed.listed fit_of p (path_of paths list) place.node list q.at
+          (omega (arith, q.in_cube.fits)) (ap (λ (n : Node). n.list) (sym here_is) ∙ list_is)
       (none_of (node nodes place.node).below (ap (λ (n : Node). is_some n.below) (sym here_is) ∙ none)) (ap (λ k. contains k p) (sym q.is) ∙ has)
     where
       q : IsPlaced cube nodes (path_of paths list) place
       q = placed.each list place low place_at
 
       here_is : here ≡ node nodes place.node
-      here_is = here_at ∙ get_or_default nodes place.node here bare (within nodes 0 (path_of paths list) place.node placed.listed.tree placed.listed.tree.some q.at)
+      here_is = here_at ∙ get_or_default nodes place.node here bare
+          (within nodes 0 (path_of paths list) place.node placed.listed.tree placed.listed.tree.some q.at)

@@ -17,6 +17,7 @@ loop-path-preserved c =
       paths = ap paths_of c.in_ok-push.ensures.items
           ∙ paths_more c.args.paths.now c.loop-path.openings.items c.loop-path.path-index o c.loop-path.invariant.paths c.loop-path-test.true at;
       shared = subst AreShared (sym c.in_ok-push.ensures.items)
-          (opening_more c.args.paths.now c.loop-path.openings.items c.loop-path.path-index o c.loop-path.invariant.shared c.loop-path.invariant.paths c.loop-path-test.true same);
+          (opening_more c.args.paths.now c.loop-path.openings.items c.loop-path.path-index o
+              c.loop-path.invariant.shared c.loop-path.invariant.paths c.loop-path-test.true same);
       before = at ∙ sym (path_after c.args.paths.now c.loop-path.path-index);
     }

@@ -14,5 +14,6 @@ reserve-requires c =
     let all : All P c.deref.result.now =
         All-same P c.deref.result.now c.newer.inside.paths.items c.deref.ensures.value
         (All-from_get_or P c.newer.inside.paths.items []
-        (λ i low. omega (arith, bits, (fit_of c.newer.inside.cube c.newer.inside.nodes.items c.newer.inside.paths.items c.newer.inside.places.items c.newer.invariant.placed i low).fits))) in
-    All-take P (length c.deref.result.now - c.min-known.result) (drop c.min-known.result c.deref.result.now) (All-drop P c.min-known.result c.deref.result.now all)
+        (λ i low. omega (arith, bits, (fit_of c.newer.invariant.placed i low).fits))) in
+    All-take P (length c.deref.result.now - c.min-known.result) (drop c.min-known.result c.deref.result.now)
+        (All-drop P c.min-known.result c.deref.result.now all)

@@ -12,7 +12,9 @@ returns-in-Some-list c = λ said.
     let same : c.in-Some-list.latest ≡ c.args.list = eqb-true _ _ both.0 in
     let none : is_some c.index.result.now.below ≡ false = sym c.is_some.ensures ∙ c.if-is_some.false in
     let low : c.args.list < length c.self.inside.places.items = omega (arith, ap length c.deref.ensures.value, c.in-Some.ensures.lookup.3.0) in
+    let at : c.in-Some.place.now ≡ get_or c.self.inside.places.items c.args.list c.in-Some.place.now =
+        c.in-Some.ensures.lookup.1 ∙ ap (λ (qs : List Place). get_or qs c.args.list c.in-Some.place.now) c.deref.ensures.value in
     let P : ShapeValue → Type 0 = λ s. IsListOf s.cube s.paths c.args.p.now c.args.list in
     subst P c.self.view_is
-    (hint_holds c.self.inside.cube c.self.inside.nodes.items c.self.inside.paths.items c.self.inside.places.items c.self.invariant.placed c.args.p.now c.args.list c.in-Some.place.now c.index.result.now
-    (omega (arith, low, c.self.invariant.placed.len)) (c.in-Some.ensures.lookup.1 ∙ ap (λ (qs : List Place). get_or qs c.args.list c.in-Some.place.now) c.deref.ensures.value) c.index.ensures none (c.in-Some-list.is ∙ ap Some same) (sym c.contains.ensures ∙ both.1))
+    (hint_holds c.self.invariant.placed c.args.p.now c.args.list c.in-Some.place.now c.index.result.now (omega (arith, low, c.self.invariant.placed.len)) at
+    c.index.ensures none (c.in-Some-list.is ∙ ap Some same) (sym c.contains.ensures ∙ both.1))

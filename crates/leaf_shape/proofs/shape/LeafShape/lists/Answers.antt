@@ -10,4 +10,4 @@ returns-clause-paths c =
     let P : ShapeValue → Type 0 = λ s. All (IsPathIn s.cube) s.paths in
     subst P c.self.view_is
     (All-from_get_or (IsPathIn c.self.inside.cube) c.self.inside.paths.items []
-    (fit_of c.self.inside.cube c.self.inside.nodes.items c.self.inside.paths.items c.self.inside.places.items c.self.invariant.placed))
+    (fit_of c.self.invariant.placed))

@@ -1,8 +1,7 @@
 -- Nodes that keep their children, and a list that is noted at a node.
-use Rattle.std.proofs.Common.{◌≡◌, ◌≢◌, ◌⊎◌, ℕ, ◌+◌, ◌-◌, ◌<◌, ◌≤◌, inl, inr, List, [], ◌∷◌, ◌++◌, length, Some, None, ap, ◌∙◌, sym, refl, arith, set, get_or}
-use Rattle.std.specs.Prelude.{replicate}
-use Rattle.std.proofs.lemmas.Bool.{cases_eq, cases_lt}
-use Rattle.std.proofs.lemmas.List.{get_or-append_right, get_or-replicate, get_or-set_other, get_or-set_same, get_or_append_left, get_or_default, get_or_past, length-append, length-replicate, length-set}
+use Rattle.std.proofs.Common.{◌≡◌, ◌≢◌, ◌⊎◌, ℕ, ◌<◌, inl, inr, List, length, Some, ap, ◌∙◌, sym, refl, arith, set, get_or}
+use Rattle.std.proofs.lemmas.Bool.{cases_eq}
+use Rattle.std.proofs.lemmas.List.{get_or-set_other, get_or-set_same, get_or_default, get_or_past, length-set}
 use Rattle.leaf_shape.specs.declared.node.Node.{Node}
 use Rattle.leaf_shape.specs.Tables.{HasChildren, IsTree, bare, node}
 use Rattle.leaf_shape.proofs.NodeLaws.{HasList}

@@ -1,5 +1,5 @@
 -- The lists of the leaves of an octree.
-use Rattle.std.proofs.Common.{◌≡◌, ◌⊎◌, ℕ, zero, suc, ◌+◌, ◌-◌, ◌<◌, ◌≤◌, inl, inr, true, false, List, [], ◌∷◌, ◌++◌, length, map, ap, ◌∙◌, sym, refl, arith, subst, Some, None, Option, Contains}
+use Rattle.std.proofs.Common.{◌≡◌, ◌⊎◌, ℕ, zero, suc, ◌<◌, ◌≤◌, inl, inr, true, false, List, [], ◌∷◌, ◌++◌, length, map, ap, ◌∙◌, sym, refl, arith, Some, None, Option, Contains}
 use Rattle.std.specs.Prelude.{All, IsSome, is_some}
 use Rattle.std.proofs.lemmas.Bool.{cases_lt, and_from, eq-eqb}
 use Rattle.std.proofs.lemmas.List.{append-nil, get_or_default}
@@ -9,9 +9,8 @@ use Rattle.cube_math.specs.Cubes.{CubeValue, contains, child, cube_at, octant}
 use Rattle.cube_math.specs.Points.{PointValue}
 use Rattle.cube_math.proofs.Halves.{child_has, octant_below}
 use Rattle.octree_model.specs.Numbers.{up_to}
-use Rattle.octree_model.specs.Octree.{octree}
 use Rattle.leaf_counts.specs.declared.counts.Counts.{Counts}
-use Rattle.leaf_counts.specs.Nodes.{NodeValue, counted, is_leaf, is_leaf_at, node_at}
+use Rattle.leaf_counts.specs.Nodes.{NodeValue, is_leaf_at, node_at}
 use Rattle.leaf_counts.proofs.CountLaws as counts
 use Rattle.leaf_counts.proofs.CountLaws.{counts_of, counted_is}
 use Rattle.leaf_counts.proofs.LeafLaws.{IsLeafHere, IsSplit, leaf_or_split, leaf_here, no_leaf_here, no_leaf_below, leaf_below, fits}

@@ -1,12 +1,12 @@
 -- Lists at the nodes of their paths, before and after one is opened.
-use Rattle.std.proofs.Common.{◌≡◌, ◌≢◌, ◌⊎◌, ℕ, zero, suc, ◌+◌, ◌<◌, ◌≤◌, inl, inr, true, List, [], ◌∷◌, ◌++◌, length, Some, None, Option, ap, ◌∙◌, sym, refl, arith, get_or, subst}
+use Rattle.std.proofs.Common.{◌≡◌, ◌≢◌, ◌⊎◌, ℕ, ◌<◌, ◌≤◌, inl, inr, List, [], ◌∷◌, ◌++◌, length, Some, Option, ap, ◌∙◌, sym, refl, arith, subst}
 use Rattle.std.specs.Prelude.{IsSome, is_some}
 use Rattle.std.proofs.lemmas.Bool.{cases_eq, cases_lt}
-use Rattle.std.proofs.lemmas.List.{get_or_append_left, get_or_push, length_push, get_or_at}
+use Rattle.std.proofs.lemmas.List.{get_or_append_left, get_or_push, length_push}
 use Rattle.leaf_shape.specs.declared.node.Node.{Node}
 use Rattle.leaf_shape.specs.Shapes.{IsBelow, IsLatest, IsSplit, path_of}
-use Rattle.leaf_shape.specs.Tables.{AreListed, HasChildrenAt, IsOpened, IsTree, list_at, node, node_at}
-use Rattle.leaf_shape.proofs.NodeLaws.{some_is, none_is}
+use Rattle.leaf_shape.specs.Tables.{AreListed, HasChildrenAt, IsOpened, list_at}
+use Rattle.leaf_shape.proofs.NodeLaws.{some_is}
 
 -- two paths are the same, or not
 pub same_or_not : (path other : List ℕ) → (path ≡ other) ⊎ (path ≢ other)

@@ -1,12 +1,11 @@
 -- Nodes by their paths, and what becomes of them when a node is given children or a list.
-use Rattle.std.proofs.Common.{◌≡◌, ◌≢◌, ◌⊎◌, ℕ, zero, suc, ◌+◌, ◌-◌, ◌<◌, ◌≤◌, inl, inr, Bool, true, false, cond, List, [], ◌∷◌, ◌++◌, length, take, drop, Some, None, Option, ap, ◌∙◌, sym, refl, arith, nat_lt}
+use Rattle.std.proofs.Common.{◌≡◌, ◌≢◌, ◌⊎◌, ℕ, zero, suc, ◌+◌, ◌-◌, ◌<◌, ◌≤◌, inl, inr, Bool, true, false, cond, List, [], ◌∷◌, ◌++◌, length, take, Some, None, Option, ap, ◌∙◌, sym, refl, arith, nat_lt}
 use Rattle.std.specs.Prelude.{option_and_then, All}
 use Rattle.std.specs.Option.{option_map_or}
 use Rattle.std.proofs.lemmas.Bool.{cases_eq, cases_lt, lt-ltb, le-ltb}
 use Rattle.std.proofs.lemmas.List.{get_or_past}
 use Rattle.std.proofs.lemmas.List.Elements.{All-nil, All-cons}
 use Rattle.leaf_shape.specs.declared.node.Node.{Node}
-use Rattle.leaf_shape.specs.Shapes.{IsBelow}
 use Rattle.leaf_shape.specs.Tables.{HasChildren, HasChildrenAt, IsTree, bare, list_at, missing, node, node_at}
 
 -- ---- one step

@@ -1,5 +1,5 @@
 -- The nodes while a list is opened for a path.
-use Rattle.std.proofs.Common.{◌≡◌, ◌≢◌, ◌⊎◌, ℕ, suc, ◌+◌, ◌-◌, ◌*◌, ◌<◌, ◌≤◌, inl, inr, List, [], ◌∷◌, ◌++◌, length, take, drop, Some, None, Option, ap, ◌∙◌, sym, refl, arith, subst, slice_get, get_or}
+use Rattle.std.proofs.Common.{◌≡◌, ◌⊎◌, ℕ, ◌+◌, ◌*◌, ◌<◌, ◌≤◌, inl, inr, List, [], ◌∷◌, ◌++◌, length, take, drop, Some, None, Option, ap, ◌∙◌, sym, refl, arith, subst, slice_get}
 use Rattle.std.proofs.lemmas.List.{drop_more, take_more, take-append-drop, take_all}
 use Rattle.std.proofs.lemmas.Option.{slice_get_within, get_or_from_slice_get}
 use Rattle.std.specs.Prelude.{IsSome, is_some}
@@ -7,7 +7,7 @@ use Rattle.cube_math.proofs.Ways.{next_of}
 use Rattle.leaf_shape.specs.declared.node.Node.{Node}
 use Rattle.leaf_shape.specs.Shapes.{IsBelow}
 use Rattle.leaf_shape.specs.Tables.{HasChildren, HasChildrenAt, IsOpened, IsTree, list_at, missing, node, node_at}
-use Rattle.leaf_shape.proofs.NodeLaws.{HasList, at_append, came, children_there, few_missing, kept_nodes, list_here, lists_elsewhere, lists_with_children, missing_all, missing_falls, missing_step, node_step, none_is, same_nodes, some_is, tree_with_children, tree_with_list, within}
+use Rattle.leaf_shape.proofs.NodeLaws.{HasList, at_append, children_there, few_missing, kept_nodes, list_here, lists_elsewhere, lists_with_children, missing_all, missing_falls, missing_step, node_step, none_is, same_nodes, tree_with_children, tree_with_list, within}
 
 -- the nodes of the first steps of a path are there, and else nodes and lists are as before
 pub record IsReached (old nodes : List Node) (path : List ℕ) (step i : ℕ) : Type 0 where

@@ -1,8 +1,8 @@
 -- Lists opened one after the other for the paths that are ready.
-use Rattle.std.proofs.Common.{◌≡◌, ℕ, zero, suc, ◌+◌, ◌-◌, ◌*◌, ◌<◌, ◌≤◌, ◌⊎◌, inl, inr, List, [], ◌∷◌, ◌++◌, length, map, take, drop, Some, None, Option, ap, ◌∙◌, sym, refl, arith, subst, get_or, add-one}
+use Rattle.std.proofs.Common.{◌≡◌, ℕ, zero, suc, ◌+◌, ◌-◌, ◌<◌, ◌≤◌, ◌⊎◌, inl, inr, List, [], ◌∷◌, ◌++◌, length, take, drop, Some, ap, ◌∙◌, sym, refl, arith, subst, get_or, add-one}
 use Rattle.std.specs.Prelude.{All}
 use Rattle.std.proofs.lemmas.Bool.{cases_lt}
-use Rattle.std.proofs.lemmas.List.{get_or-map, get_or-take, length-take-le, take_more, get_or_append_left, get_or_push, get_or_default, length_push, length-map, map_push, take-append-drop}
+use Rattle.std.proofs.lemmas.List.{get_or-map, get_or-take, length-take-le, take_more, get_or_append_left, get_or_push, length_push, length-map, map_push, take-append-drop}
 use Rattle.std.proofs.lemmas.List.Elements.{All-get_or}
 use Rattle.std.proofs.lemmas.List.Sums.{sum_by-drop_more}
 use Rattle.cube_math.specs.Cubes.{CubeValue, cube_at}
@@ -12,7 +12,7 @@ use Rattle.leaf_shape.specs.declared.place.Place.{Place}
 use Rattle.leaf_shape.specs.Kept.{ArePlaced, IsPlaced}
 use Rattle.leaf_shape.specs.Openings.{AreShared, blocks, paths_of}
 use Rattle.leaf_shape.specs.Shapes.{path_of}
-use Rattle.leaf_shape.specs.Tables.{AreListed, IsOpened, missing, node_at}
+use Rattle.leaf_shape.specs.Tables.{IsOpened, missing, node_at}
 use Rattle.leaf_shape.proofs.ListLaws.{before_or_last, listed_once_opened, path_before, path_last}
 use Rattle.leaf_shape.proofs.NodeLaws.{IsOnTheWay, missing_behind, octants_below, on_the_way}
 

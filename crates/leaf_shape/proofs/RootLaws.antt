@@ -1,12 +1,12 @@
 -- The table of a root alone.
-use Rattle.std.proofs.Common.{◌≡◌, ℕ, zero, suc, ◌+◌, ◌<◌, ◌≤◌, List, [], ◌∷◌, length, Some, None, ap, ◌∙◌, sym, refl, arith, subst, get_or}
+use Rattle.std.proofs.Common.{◌≡◌, ℕ, zero, suc, ◌<◌, ◌≤◌, List, [], ◌∷◌, Some, None, ap, ◌∙◌, sym, refl, arith, subst, get_or}
 use Rattle.std.specs.Prelude.{IsSome, option_and_then}
 use Rattle.std.proofs.lemmas.List.Elements.{All-nil}
 use Rattle.cube_math.specs.Cubes.{CubeValue}
 use Rattle.leaf_shape.specs.declared.node.Node.{Node}
 use Rattle.leaf_shape.specs.declared.place.Place.{Place}
 use Rattle.leaf_shape.specs.Kept.{ArePlaced, IsPlaced}
-use Rattle.leaf_shape.specs.Shapes.{IsLatest, IsSplit, path_of}
+use Rattle.leaf_shape.specs.Shapes.{IsLatest, path_of}
 use Rattle.leaf_shape.specs.Tables.{AreListed, IsTree, list_at, node, node_at}
 use Rattle.leaf_shape.proofs.NodeLaws.{no_step, none_is, some_is}
 

@@ -1,12 +1,12 @@
 -- The lists of points, as more lists are opened.
-use Rattle.std.proofs.Common.{◌≡◌, ◌⊎◌, ℕ, ◌+◌, ◌-◌, ◌<◌, ◌≤◌, inl, inr, true, false, List, [], ◌∷◌, ◌++◌, length, ap, ◌∙◌, sym, refl, arith, subst}
+use Rattle.std.proofs.Common.{◌≡◌, ◌⊎◌, ℕ, ◌-◌, ◌<◌, ◌≤◌, inl, inr, true, false, List, [], ◌∷◌, ◌++◌, length, ap, ◌∙◌, sym, refl, arith, subst}
 use Rattle.std.specs.Prelude.{All}
 use Rattle.std.proofs.lemmas.Bool.{cases_lt}
 use Rattle.std.proofs.lemmas.List.{get_or_append_left, get_or-append_right, length-append}
 use Rattle.std.proofs.lemmas.List.Elements.{All-get_or}
 use Rattle.cube_math.specs.Cubes.{CubeValue, contains, child, cube_at}
 use Rattle.cube_math.specs.Points.{PointValue}
-use Rattle.leaf_shape.specs.Shapes.{GoesOn, IsLatest, IsListOf, IsPathIn, path_of}
+use Rattle.leaf_shape.specs.Shapes.{GoesOn, IsListOf, IsPathIn, path_of}
 use Rattle.leaf_shape.proofs.CubeLaws.{IsWay, contained_above, goes_on, same_path, way_on}
 
 pub way_in : (cube : CubeValue) (path : List ℕ) → IsPathIn cube path → IsWay cube path

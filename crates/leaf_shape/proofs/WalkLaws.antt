@@ -1,5 +1,5 @@
 -- The walk from the root down to the list of a point.
-use Rattle.std.proofs.Common.{◌≡◌, ◌≢◌, ◌⊎◌, ℕ, suc, ◌+◌, ◌-◌, ◌<◌, ◌≤◌, inl, inr, true, false, not, Bool, List, [], ◌∷◌, ◌++◌, length, Some, None, Option, ap, ◌∙◌, sym, refl, arith, subst, get_or}
+use Rattle.std.proofs.Common.{◌≡◌, ◌⊎◌, ℕ, ◌+◌, ◌-◌, ◌<◌, ◌≤◌, inl, inr, true, false, not, Bool, List, [], ◌∷◌, ◌++◌, length, Some, None, Option, ap, ◌∙◌, sym, refl, arith, subst, get_or}
 use Rattle.std.specs.Prelude.{option_and_then, is_some, unwrap_or}
 use Rattle.std.proofs.lemmas.Bool.{cases_lt, and_from, eq-eqb}
 use Rattle.std.proofs.lemmas.List.{get_or_default, length_push, length-append, append-nil}
@@ -10,10 +10,10 @@ use Rattle.cube_math.proofs.Ways.{cube_at-push}
 use Rattle.leaf_shape.specs.declared.node.Node.{Node}
 use Rattle.leaf_shape.specs.declared.place.Place.{Place}
 use Rattle.leaf_shape.specs.Kept.{ArePlaced, IsPlaced}
-use Rattle.leaf_shape.specs.Shapes.{GoesOn, IsBelow, IsLatest, IsListOf, IsPathIn, IsSplit, path_of}
-use Rattle.leaf_shape.specs.Tables.{AreListed, IsTree, bare, list_at, node, node_at}
+use Rattle.leaf_shape.specs.Shapes.{GoesOn, IsLatest, IsListOf, IsPathIn, IsSplit, path_of}
+use Rattle.leaf_shape.specs.Tables.{AreListed, bare, list_at, node, node_at}
 use Rattle.leaf_shape.proofs.CubeLaws.{IsWay, goes_on, same_path}
-use Rattle.leaf_shape.proofs.NodeLaws.{some_is, none_is, IsStep, node_step, no_step, at_append, IsOnTheWay, on_the_way, within, octants_below}
+use Rattle.leaf_shape.proofs.NodeLaws.{none_is, node_step, no_step, at_append, within, octants_below}
 
 false_is : false ≡ true → ⊥
 false_is e = cc

@@ -1,5 +1,4 @@
-use Rattle.std.proofs.Common.{◌≡◌, ℕ, List, All, IsSome, IsTrue, Contains, subst, sym}
-use Rattle.cube_math.specs.Cubes.{CubeValue}
+use Rattle.std.proofs.Common.{ℕ, List, All, IsSome, IsTrue, Contains, subst, sym}
 use Rattle.leaf_counts.specs.declared.counts.Counts.{Counts}
 use Rattle.leaf_counts.specs.Nodes.{is_leaf_at, node_at}
 use Rattle.leaf_counts.proofs.CountLaws.{counted_is}

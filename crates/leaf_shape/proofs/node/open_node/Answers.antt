@@ -1,4 +1,4 @@
-use Rattle.std.proofs.Common.{◌≡◌, ◌∙◌, ◌+◌, ◌*◌, ◌≤◌, ◌<◌, ℕ, ap, sym, arith, drop, length, refl, subst, set, vec_len, Some}
+use Rattle.std.proofs.Common.{◌≡◌, ◌+◌, ◌*◌, ◌≤◌, ◌<◌, ℕ, ap, sym, arith, drop, length, refl, subst, set, vec_len, Some}
 use Rattle.leaf_shape.specs.declared.node.Node.{Node}
 use Rattle.leaf_shape.specs.Tables.{HasChildren, missing}
 use Rattle.leaf_shape.proofs.ChildrenLaws.{list_noted}

@@ -1,4 +1,4 @@
-use Rattle.std.proofs.Common.{◌≡◌, ◌∙◌, ◌∷◌, ◌++◌, [], ap, sym, subst, take, List, ℕ}
+use Rattle.std.proofs.Common.{◌≡◌, ◌∙◌, ◌∷◌, [], ap, sym, subst, take}
 use Rattle.std.proofs.lemmas.List.{get_or_default}
 use Rattle.leaf_shape.specs.declared.opening.Opening.{Opening}
 use Rattle.leaf_shape.specs.Openings.{AreShared, paths_of}

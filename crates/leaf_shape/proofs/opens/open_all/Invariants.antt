@@ -1,4 +1,4 @@
-use Rattle.std.proofs.Common.{◌≡◌, ◌+◌, ◌-◌, ◌*◌, ◌≤◌, ◌<◌, ◌^◌, ◌++◌, ◌∷◌, [], drop, take, length, vec_len}
+use Rattle.std.proofs.Common.{◌≡◌, ◌+◌, ◌*◌, ◌≤◌, ◌++◌, ◌∷◌, [], drop, take, vec_len}
 use Rattle.std.specs.Vec.{vec_capacity}
 use Rattle.leaf_shape.specs.Kept.{ArePlaced}
 use Rattle.leaf_shape.specs.Openings.{blocks, paths_of}

@@ -1,4 +1,4 @@
-use Rattle.std.proofs.Common.{◌≡◌, IsTrue, ap, arith, length, subst}
+use Rattle.std.proofs.Common.{IsTrue, ap, arith, length, subst}
 use Rattle.leaf_shape.specs.Shapes.{IsSplit, ShapeValue, path_of}
 use Rattle.leaf_shape.proofs.WalkLaws.{leaf_told}
 use Rattle.leaf_shape.proofs.shape.LeafShape.is_leaf.Goals as goal

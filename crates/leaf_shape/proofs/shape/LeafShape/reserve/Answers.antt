@@ -2,7 +2,7 @@ use Rattle.std.proofs.Common.{◌≡◌, ◌∙◌, ◌+◌, ◌≤◌, ap, arit
 use Rattle.std.specs.Prelude.{All}
 use Rattle.std.proofs.lemmas.List.{length-map}
 use Rattle.leaf_shape.specs.declared.opening.Opening.{Opening}
-use Rattle.leaf_shape.specs.Openings.{blocks, paths_of}
+use Rattle.leaf_shape.specs.Openings.{blocks}
 use Rattle.leaf_shape.specs.Shapes.{ShapeValue}
 use Rattle.leaf_shape.proofs.OpeningLaws.{fit_from_paths, placed_same}
 use Rattle.leaf_shape.proofs.shape.LeafShape.reserve.Goals as goal

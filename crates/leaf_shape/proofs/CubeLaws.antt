@@ -30,14 +30,14 @@ pub contained_above : (cube : CubeValue) (path : List ℕ) (p : PointValue) → 
 contained_above cube [] p way e = e
 contained_above cube (g ∷ path) p way e =
     (and_parts _ _ (sym (child_has cube p g (omega (arith, way.fits)) (first_octant cube g path way))
-        ∙ contained_above (child cube g) path p (way_on cube g path way) e)).0
+    ∙ contained_above (child cube g) path p (way_on cube g path way) e)).0
 
 pub first_step : (cube : CubeValue) (g : ℕ) (path : List ℕ) (p : PointValue) → IsWay cube (g ∷ path)
     → contains (cube_at cube (g ∷ path)) p ≡ true → IsFirst cube g p
 first_step cube g path p way e =
     let both : (contains cube p ≡ true) × (_ ≡ true) =
-        and_parts _ _ (sym (child_has cube p g (omega (arith, way.fits)) (first_octant cube g path way))
-        ∙ contained_above (child cube g) path p (way_on cube g path way) e) in
+    and_parts _ _ (sym (child_has cube p g (omega (arith, way.fits)) (first_octant cube g path way))
+    ∙ contained_above (child cube g) path p (way_on cube g path way) e) in
     record { contained = both.0; octant = eqb-true _ _ both.1 }
 
 -- of two paths whose cubes contain a point the longer one goes on from the other
@@ -50,8 +50,8 @@ goes_on cube (g ∷ path) (h ∷ other) p way way' e e' le =
     let same : h ≡ g = sym (first_step cube h other p way' e').octant ∙ (first_step cube g path p way e).octant in
     let P : ℕ → Type 0 = λ k. IsWay (child cube k) other in
     let further : GoesOn path other =
-        goes_on (child cube g) path other p (way_on cube g path way) (subst P same (way_on cube h other way')) e
-        (ap (λ k. contains (cube_at (child cube k) other) p) (sym same) ∙ e') (omega (arith, le)) in
+    goes_on (child cube g) path other p (way_on cube g path way) (subst P same (way_on cube h other way')) e
+    (ap (λ k. contains (cube_at (child cube k) other) p) (sym same) ∙ e') (omega (arith, le)) in
     record { rest = further.rest; is = ap (λ k. k ∷ other) same ∙ ap (λ (q : List ℕ). g ∷ q) further.is }
 
 -- two paths of one length whose cubes contain a point are one

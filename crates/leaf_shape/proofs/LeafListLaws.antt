@@ -103,7 +103,7 @@ has_leaf (suc n) leaf c ps p le has = of_role (leaf_or_split leaf c ps) (λ d le
         let some : 0 < c.bits = omega (arith, s.high) in
         let low : octant c p < 8 = octant_below c p some has in
         let below : contains (child c (octant c p)) p ≡ true =
-            child_has c p (octant c p) some low ∙ and_from _ _ has (eq-eqb (octant c p) (octant c p) refl) in
+        child_has c p (octant c p) some low ∙ and_from _ _ has (eq-eqb (octant c p) (octant c p) refl) in
         leaf_of_child leaf c ps p (octant c p) s low (on (child c (octant c p)) (omega (arith, le)) below)
 
 -- the list of a point is that of its leaf
@@ -141,6 +141,6 @@ leaf_has_list leaf c ps paths p list seven has leaves nodes l = of_leaf (has_lea
         let at : Contains paths q.path = leaves q.path q.ends in
         let is : path_of paths at.0 ≡ q.path = get_or_default paths at.0 [] q.path at.1 ∙ at.2 in
         let on : GoesOn q.path (path_of paths list) =
-            goes_on c q.path (path_of paths list) p q.way way q.contained l.contained
-            (omega (arith, ap length is, l.longest at.0 at.1 (ap (λ r. contains (cube_at c r) p) is ∙ q.contained))) in
+        goes_on c q.path (path_of paths list) p q.way way q.contained l.contained
+        (omega (arith, ap length is, l.longest at.0 at.1 (ap (λ r. contains (cube_at c r) p) is ∙ q.contained))) in
         by_rest q.path on.rest q.ends on.is

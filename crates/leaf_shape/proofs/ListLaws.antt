@@ -35,7 +35,6 @@ before_or_last paths path list low = elim (cases_lt list (length paths)) [
 ]
 
 module _ (paths : List (List ℕ)) (path : List ℕ) where
-
   pub split_before : (other : List ℕ) → IsSplit paths other → IsSplit (paths ++ path ∷ []) other
   split_before other s =
       let P : List ℕ → Type 0 = λ q. IsBelow other q in

@@ -121,7 +121,6 @@ pub record IsOld (old : List Node) (i : ℕ) (path : List ℕ) (j : ℕ) : Type 
   pub low : j < length old
 
 module _ (old new : List Node) (n first : ℕ) (tree : IsTree old) (has : HasChildren old new n first) where
-
   below_of_same : (i j : ℕ) (nodes : List Node) → i ≡ j → (node nodes i).below ≡ (node nodes j).below
   below_of_same i j nodes same = ap (λ k. (node nodes k).below) same
 
@@ -140,7 +139,7 @@ module _ (old new : List Node) (n first : ℕ) (tree : IsTree old) (has : HasChi
   kept_nodes i (g ∷ path) j low e =
       let s : IsStep old i g path j = step_from old i g path j e in
       node_step new i g s.first path s.octant (kept_below i s.first low s.below)
-          ∙ kept_nodes (s.first + g) path j (omega (arith, tree.eight i s.first s.below, s.octant)) s.rest
+      ∙ kept_nodes (s.first + g) path j (omega (arith, tree.eight i s.first s.below, s.octant)) s.rest
 
   -- a node that had no children and has some now is the one that was given them
   record IsGiven (i f : ℕ) : Type 0 where
@@ -288,7 +287,6 @@ pub record HasList (old new : List Node) (i list : ℕ) : Type 0 where
   pub others : (j : ℕ) → j ≢ i → (node new j).list ≡ (node old j).list
 
 module _ (old new : List Node) (n list : ℕ) (has : HasList old new n list) where
-
   pub same_nodes : (i : ℕ) (path : List ℕ) → node_at new i path ≡ node_at old i path
   same_nodes i [] = refl
   same_nodes i (g ∷ path) = elim (cases_lt g 8) [

@@ -21,7 +21,6 @@ pub reached_root : (old : List Node) (path : List ℕ) → IsTree old → IsReac
 reached_root old path tree = record { tree = tree; kept = λ other j e. e; at = refl; lists = λ other. refl; used = λ other h. inl h }
 
 module _ (old nodes : List Node) (path : List ℕ) (step i : ℕ) (r : IsReached old nodes path step i) where
-
   pub reached_within : i < length nodes
   reached_within = within nodes 0 (take step path) i r.tree r.tree.some r.at
 
@@ -92,8 +91,11 @@ missing_next nodes new i g first rest tree has low = record { had = had; made = 
       where
         of_made : ((node nodes i).below ≡ Some first) ⊎ ((node nodes i).below ≡ None) × (first ≡ length nodes)
             → missing new (first + g) rest ≤ missing nodes i (g ∷ rest)
-        of_made (inl was) = omega (arith, missing_step nodes i g first rest was,
-            missing_falls nodes new i first tree has (first + g) rest (omega (arith, tree.eight i first was, low)))
+        of_made (inl was) = omega (
+          arith,
+          missing_step nodes i g first rest was,
+          missing_falls nodes new i first tree has (first + g) rest (omega (arith, tree.eight i first was, low)),
+        )
         of_made (inr none) = absurd (none_is f (sym none.0 ∙ is))
 
     made : (node nodes i).below ≡ None → missing new (first + g) rest + 1 ≤ missing nodes i (g ∷ rest)

@@ -25,7 +25,6 @@ pub record HasNode (nodes : List Node) (path : List ℕ) : Type 0 where
 module _ (cube : CubeValue) (old new : List Node) (paths : List (List ℕ)) (places : List Place) (path : List ℕ) (place : Place) (i : ℕ)
     (placed : ArePlaced cube old paths places) (opened : IsOpened old new path (length paths) i) (fits : length path + 7 ≤ cube.bits)
     (cube_is : place.cube ≡ cube_at cube path) (number : place.node ≡ i) where
-
   pub placed_more : ArePlaced cube new (paths ++ path ∷ []) (places ++ place ∷ [])
   placed_more = record {
     listed = listed_once_opened paths path old new i placed.listed opened;
@@ -39,7 +38,7 @@ module _ (cube : CubeValue) (old new : List Node) (paths : List (List ℕ)) (pla
           → (list < length paths) ⊎ (list ≡ length paths) → IsPlaced cube new (path_of (paths ++ path ∷ []) list) q
       each list q at (inl low) =
           let was : IsPlaced cube old (path_of paths list) q =
-              placed.each list q low (at ∙ get_or_append_left places (place ∷ []) q list (omega (arith, low, placed.len))) in
+          placed.each list q low (at ∙ get_or_append_left places (place ∷ []) q list (omega (arith, low, placed.len))) in
           let P : List ℕ → Type 0 = λ r. IsPlaced cube new r q in
           subst P (sym (path_before paths path list low)) record { is = was.is; at = opened.kept (path_of paths list) q.node was.at; in_cube = was.in_cube }
       each list q at (inr last) =
@@ -60,7 +59,7 @@ before_next ready k o low at = rw add-one (get_or-map (λ (q : Opening). q.path)
 shared_node : (nodes : List Node) (path other : List ℕ) (steps : ℕ) → HasNode nodes other → take steps other ≡ take steps path → HasNode nodes (take steps path)
 shared_node nodes path other steps has same =
     let w : IsOnTheWay nodes 0 (take steps other) (drop steps other) has.number =
-        on_the_way nodes 0 (take steps other) (drop steps other) has.number (ap (node_at nodes 0) (take-append-drop steps other) ∙ has.at) in
+    on_the_way nodes 0 (take steps other) (drop steps other) has.number (ap (node_at nodes 0) (take-append-drop steps other) ∙ has.at) in
     record { number = w.number; at = ap (node_at nodes 0) (sym same) ∙ w.at }
 
 -- an opening takes no more nodes than were counted for it
@@ -70,7 +69,7 @@ pub room_for : (nodes : List Node) (ready : List Opening) (k : ℕ) (o : Opening
 room_for nodes ready k o shared low at before =
     let has : HasNode nodes (take o.shared o.path) = shared_node nodes o.path (path_of ([] ∷ paths_of ready) k) o.shared before (shared k o low at) in
     let one : (λ (q : Opening). length q.path - q.shared) (get_or ready k o) ≡ length o.path - o.shared =
-        ap (λ (q : Opening). length q.path - q.shared) (sym at) in
+    ap (λ (q : Opening). length q.path - q.shared) (sym at) in
     omega (arith, missing_behind nodes 0 o.shared o.path has.number has.at, one, sum_by-drop_more (λ (q : Opening). length q.path - q.shared) ready k o low)
 
 pub fits_at : (cube : CubeValue) (ready : List Opening) (k : ℕ) (o : Opening)
@@ -102,7 +101,7 @@ shared_more ready o shared same k q low at = of_place (cases_lt k (length ready)
         let n : q.shared ≡ o.shared = ap (λ (r : Opening). r.shared) is in
         let path : q.path ≡ o.path = ap (λ (r : Opening). r.path) is in
         (λ i. take (n i) (path_of ([] ∷ paths_of (ready ++ o ∷ [])) (last i)))
-            ∙ ap (take o.shared) (before_is (length ready) (omega arith)) ∙ same ∙ sym (λ i. take (n i) (path i))
+        ∙ ap (take o.shared) (before_is (length ready) (omega arith)) ∙ same ∙ sym (λ i. take (n i) (path i))
 
 pub none_shared : AreShared []
 none_shared k o low at = absurd (omega arith)
@@ -128,7 +127,7 @@ pub paths_more : (paths : List (List ℕ)) (ready : List Opening) (i : ℕ) (o :
     → paths_of (ready ++ o ∷ []) ≡ take (i + 1) paths
 paths_more paths ready i o so_far low at =
     map_push (λ (q : Opening). q.path) ready o ∙ ap (λ (ps : List (List ℕ)). ps ++ o.path ∷ []) so_far
-        ∙ ap (λ (q : List ℕ). take i paths ++ q ∷ []) at ∙ sym (take_more paths i [] low)
+    ∙ ap (λ (q : List ℕ). take i paths ++ q ∷ []) at ∙ sym (take_more paths i [] low)
 
 pub path_after : (paths : List (List ℕ)) (i : ℕ) → path_of ([] ∷ paths) (i + 1) ≡ path_of paths i
 path_after paths i = rw add-one refl
@@ -139,7 +138,7 @@ pub fit_from_paths : (cube : CubeValue) (paths : List (List ℕ)) (ready : List 
     → All (λ (o : Opening). length o.path + 7 ≤ cube.bits) ready
 fit_from_paths cube paths ready same fit = λ k d low.
     let at : path_of paths k ≡ (get_or ready k d).path = ap (λ (ps : List (List ℕ)). path_of ps k) (sym same)
-        ∙ get_or-map (λ (o : Opening). o.path) ready k d [] low in
+    ∙ get_or-map (λ (o : Opening). o.path) ready k d [] low in
     let long : length paths ≡ length ready = ap length (sym same) ∙ length-map ready (λ (o : Opening). o.path) in
     omega (arith, ap length at, fit k [] (omega (arith, low, long)))
 

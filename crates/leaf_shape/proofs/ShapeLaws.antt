@@ -25,15 +25,14 @@ pub one_list : (cube : CubeValue) (paths : List (List ℕ)) (p : PointValue) (li
     → All (IsPathIn cube) paths → IsListOf cube paths p list → IsListOf cube paths p other → list ≡ other
 one_list cube paths p list other all l m =
     let len : length (path_of paths list) ≡ length (path_of paths other) =
-        omega (arith, l.longest other m.latest.opened m.contained, m.longest list l.latest.opened l.contained) in
+    omega (arith, l.longest other m.latest.opened m.contained, m.longest list l.latest.opened l.contained) in
     let same : path_of paths list ≡ path_of paths other =
-        same_path cube (path_of paths list) (path_of paths other) p
-        (way_of cube paths list all l.latest.opened) (way_of cube paths other all m.latest.opened) l.contained m.contained len in
+    same_path cube (path_of paths list) (path_of paths other) p
+    (way_of cube paths list all l.latest.opened) (way_of cube paths other all m.latest.opened) l.contained m.contained len in
     omega (arith, l.latest.latest other m.latest.opened (sym same), m.latest.latest list l.latest.opened same)
 
 -- ---- more lists
 module _ (paths more : List (List ℕ)) where
-
   pub path_kept : (list : ℕ) → list < length paths → path_of (paths ++ more) list ≡ path_of paths list
   path_kept list low = get_or_append_left paths more [] list low
 
@@ -47,10 +46,10 @@ module _ (paths more : List (List ℕ)) where
   old_or_new list low = elim (cases_lt list (length paths)) [
     | inl before ↦ inl before
     | inr past ↦ inr record {
-        number = list - length paths;
-        low = omega (arith, low, past, length-append paths more);
-        is = get_or-append_right paths more (length paths) list [] refl past;
-      }
+      number = list - length paths;
+      low = omega (arith, low, past, length-append paths more);
+      is = get_or-append_right paths more (length paths) list [] refl past;
+    }
   ]
 
 pub stays_elsewhere : (cube : CubeValue) (paths more : List (List ℕ)) (path : List ℕ) (p : PointValue) (list : ℕ)

@@ -33,7 +33,6 @@ pub record IsWalk (cube : CubeValue) (nodes : List Node) (paths : List (List ℕ
 
 module _ (cube : CubeValue) (nodes : List Node) (paths : List (List ℕ)) (listed : AreListed nodes paths)
     (fit : (list : ℕ) → list < length paths → IsPathIn cube (path_of paths list)) where
-
   way_of : (list : ℕ) → list < length paths → IsWay cube (path_of paths list)
   way_of list low = let in_cube : IsPathIn cube (path_of paths list) = fit list low in record { octants = in_cube.octants; fits = omega (arith, in_cube.fits) }
 
@@ -44,8 +43,8 @@ module _ (cube : CubeValue) (nodes : List Node) (paths : List (List ℕ)) (liste
       of_node : (o : Option ℕ) → node_at nodes 0 (path_of paths list) ≡ o → (i : ℕ) × (node_at nodes 0 (path_of paths list) ≡ Some i)
       of_node None none =
           let bad : false ≡ true =
-              sym (ap (λ (o : Option ℕ). is_some (option_and_then (λ i. (node nodes i).list) o)) none)
-              ∙ listed.found list low in
+          sym (ap (λ (o : Option ℕ). is_some (option_and_then (λ i. (node nodes i).list) o)) none)
+          ∙ listed.found list low in
           absurd (false_is bad)
       of_node (Some i) is = (i, is)
 
@@ -85,8 +84,8 @@ module _ (cube : CubeValue) (nodes : List Node) (paths : List (List ℕ)) (liste
       → other < length paths → path_of paths other ≡ path → ⊥
   none_at path i other at none low is =
       let bad : false ≡ true =
-          sym (ap (λ (o : Option ℕ). is_some o) (ap (list_at nodes) is
-          ∙ ap (option_and_then (λ j. (node nodes j).list)) at ∙ none)) ∙ listed.found other low in
+      sym (ap (λ (o : Option ℕ). is_some o) (ap (list_at nodes) is
+      ∙ ap (option_and_then (λ j. (node nodes j).list)) at ∙ none)) ∙ listed.found other low in
       false_is bad
 
   latest_of_path : (path : List ℕ) (list : ℕ) → IsLatest paths path list → IsLatest paths (path_of paths list) list
@@ -110,7 +109,6 @@ module _ (cube : CubeValue) (nodes : List Node) (paths : List (List ℕ)) (liste
   -- the walk goes down one step, to the node of the point's octant
   module _ (p : PointValue) (i : ℕ) (here : CubeValue) (list : ℕ) (w : IsWalk cube nodes paths p i here list) (first g n : ℕ) (here' : CubeValue)
       (below : (node nodes i).below ≡ Some first) (octant_is : g ≡ octant here p) (number : n ≡ first + g) (child_is : here' ≡ child here g) where
-
     deep : length w.path + 8 ≤ cube.bits
     deep = splits w.path i first w.at below
 
@@ -160,14 +158,14 @@ module _ (cube : CubeValue) (nodes : List Node) (paths : List (List ℕ)) (liste
       where
         of_length : (other : ℕ) → other < length paths → contains (cube_at cube (path_of paths other)) p ≡ true
             → (length w.path < length (path_of paths other)) ⊎ (length (path_of paths other) ≤ length w.path)
-                → length (path_of paths other) ≤ length (w.path ++ g ∷ [])
+            → length (path_of paths other) ≤ length (w.path ++ g ∷ [])
             → length (path_of paths other) ≤ length (path_of paths list)
         of_length other lower has'' (inr short) le = w.longest other lower has'' short
         of_length other lower has'' (inl longer) le =
             let len : length (path_of paths other) ≡ length (w.path ++ g ∷ []) = omega (arith, longer, le, length_push w.path g) in
             let way : IsWay cube (w.path ++ g ∷ []) = way_to (w.path ++ g ∷ []) n at' (omega (arith, length_push w.path g, deep)) in
             let same : path_of paths other ≡ w.path ++ g ∷ [] =
-                same_path cube (path_of paths other) (w.path ++ g ∷ []) p (way_of other lower) way has'' (ap (λ k. contains k p) (sym cube') ∙ has') len in
+            same_path cube (path_of paths other) (w.path ++ g ∷ []) p (way_of other lower) way has'' (ap (λ k. contains k p) (sym cube') ∙ has') len in
             absurd (none_at (w.path ++ g ∷ []) n other at' none lower same)
 
   -- the walk ends at a node with no children
@@ -197,8 +195,8 @@ module _ (cube : CubeValue) (nodes : List Node) (paths : List (List ℕ)) (liste
   unsplit_end path i at none s =
       let f : (j : ℕ) × (node_at nodes 0 (path_of paths s.list) ≡ Some j) = found_node s.list s.opened in
       none_is f.0 (sym (no_step nodes i s.below.octant s.below.rest none)
-          ∙ sym (at_append nodes 0 path (s.below.octant ∷ s.below.rest) i at) ∙ ap (node_at nodes 0) (sym s.below.is)
-          ∙ f.1)
+      ∙ sym (at_append nodes 0 path (s.below.octant ∷ s.below.rest) i at) ∙ ap (node_at nodes 0) (sym s.below.is)
+      ∙ f.1)
 
   pub end_of_unsplit : (path : List ℕ) (i : ℕ) → node_at nodes 0 path ≡ Some i → (IsSplit paths path → ⊥) → (node nodes i).below ≡ None
   end_of_unsplit path i at unsplit = of_below (node nodes i).below refl
@@ -222,7 +220,6 @@ pub record IsAt (cube : CubeValue) (nodes : List Node) (paths : List (List ℕ))
   pub walk : IsWalk cube nodes paths p number near list
 
 module _ {cube : CubeValue} {nodes : List Node} {paths : List (List ℕ)} {places : List Place} (placed : ArePlaced cube nodes paths places) where
-
   pub fit_of : (list : ℕ) → list < length paths → IsPathIn cube (path_of paths list)
   fit_of list low =
       let d : Place = record { cube = cube; node = 0 } in
@@ -262,7 +259,7 @@ module _ {cube : CubeValue} {nodes : List Node} {paths : List (List ℕ)} {place
           (with_no_list cube nodes paths placed.listed fit_of p at.number near list at.walk first g n near' was octant_is number child_is none)
       of_list (Some k) is =
           with_a_list cube nodes paths placed.listed fit_of p at.number near list at.walk first g n near' was
-              octant_is number child_is list' (is ∙ ap Some (sym (same (Some k) is)))
+          octant_is number child_is list' (is ∙ ap Some (sym (same (Some k) is)))
 
   -- the next node of a walk is one of the table
   pub next_within : {p : PointValue} {here : Node} {near : CubeValue} {list : ℕ} (first g : ℕ)
@@ -274,7 +271,7 @@ module _ {cube : CubeValue} {nodes : List Node} {paths : List (List ℕ)} {place
       → IsAt cube nodes paths p here near list → here.below ≡ Some first → 7 < near.bits
   walk_splits first at below =
       let deep : length at.walk.path + 8 ≤ cube.bits =
-          splits cube nodes paths placed.listed fit_of at.walk.path at.number first at.walk.at (sym (ap (λ (m : Node). m.below) at.is) ∙ below) in
+      splits cube nodes paths placed.listed fit_of at.walk.path at.number first at.walk.at (sym (ap (λ (m : Node). m.below) at.is) ∙ below) in
       omega (arith, deep, at.walk.bits)
 
   pub walk_done : {p : PointValue} {here : Node} {near : CubeValue} {list : ℕ}
@@ -312,7 +309,7 @@ module _ {cube : CubeValue} {nodes : List Node} {paths : List (List ℕ)} {place
       → is_some here.below ≡ false → here.list ≡ Some list → contains place.cube p ≡ true → IsListOf cube paths p list
   hint_holds p list place here low place_at here_at none list_is has =
       list_at_end cube nodes paths placed.listed fit_of p (path_of paths list) place.node list q.at
-          (omega (arith, q.in_cube.fits)) (ap (λ (n : Node). n.list) (sym here_is) ∙ list_is)
+      (omega (arith, q.in_cube.fits)) (ap (λ (n : Node). n.list) (sym here_is) ∙ list_is)
       (none_of (node nodes place.node).below (ap (λ (n : Node). is_some n.below) (sym here_is) ∙ none)) (ap (λ k. contains k p) (sym q.is) ∙ has)
     where
       q : IsPlaced cube nodes (path_of paths list) place

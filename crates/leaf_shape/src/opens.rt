@@ -35,7 +35,15 @@ pub(crate) fn open_all(
 {
     for opening in ready {
         let node = open_node(nodes, &opening.path, paths.len() as u32);
-        add_list(paths, places, opening.path, Place { cube: cube.at(&opening.path), node });
+        add_list(
+            paths,
+            places,
+            opening.path,
+            Place {
+                cube: cube.at(&opening.path),
+                node,
+            },
+        );
     }
 }
 

@@ -42,7 +42,10 @@ impl LeafShape {
         // So that the root's path fits the cube.
         prove!(cube.bits >= 7);
         let mut nodes = Vec::with_capacity(alloc, 1)?;
-        nodes.push(Node { below: None, list: Some(0) })?;
+        nodes.push(Node {
+            below: None,
+            list: Some(0),
+        })?;
         let mut paths = Vec::with_capacity(alloc, 1)?;
         paths.push(Path::root())?;
         let mut places = Vec::with_capacity(alloc, 1)?;

@@ -118,7 +118,10 @@ fn of_two_lists_for_a_path_the_later_counts(rt: HostRuntime) -> Result<(), Fail>
     let cube = Cube::new(0, 0, 0, 8).ok_or("fits")?;
     let mut shape = LeafShape::new(rt.alloc(), cube)?;
     let path = Path::root().child(3);
-    assert_eq!(rt; open_lists(rt.alloc(), &mut shape, &[path, Path::root(), path])?, 1);
+    assert_eq!(rt;
+        open_lists(rt.alloc(), &mut shape, &[path, Path::root(), path])?,
+        1
+    );
     assert_eq!(rt; list_at(&shape, &at(0, 0, 0)), Some(2));
     assert_eq!(rt; list_by(&shape, &at(200, 200, 0), 1), Some(3));
     Ok(())

@@ -9,6 +9,6 @@ use Rattle.leaf_shape.proofs.laws.lists_are_those_of_leaves.Goals as goal
 pub returns : goal.returns
 returns c = λ leaf cube points paths p list seven has.
     let P : Counts → Type 0 = λ counts. ((path : List ℕ) → IsTrue (is_leaf_at counts path) → Contains paths path)
-        → All (λ path. IsSome (node_at counts path)) paths
-        → IsListOf cube paths p list → IsTrue (is_leaf_at counts (path_of paths list)) in
+    → All (λ path. IsSome (node_at counts path)) paths
+    → IsListOf cube paths p list → IsTrue (is_leaf_at counts (path_of paths list)) in
     subst P (sym (counted_is leaf cube points)) (leaf_has_list leaf cube points paths p list seven has)

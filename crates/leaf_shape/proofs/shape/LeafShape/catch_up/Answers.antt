@@ -10,10 +10,10 @@ pub reserve-requires : goal.reserve-requires
 reserve-requires c =
     let P : List ℕ → Type 0 = λ path. length path + 7 ≤ c.args.self.now.cube.bits in
     let bits : c.newer.inside.cube.bits ≡ c.args.self.now.cube.bits =
-        sym (ap (λ (k : CubeValue). k.bits) (c.is_same_cube.ensures.0 c.if-not-is_same_cube.false)) ∙ ap (λ (s : ShapeValue). s.cube.bits) c.self.view_is in
+    sym (ap (λ (k : CubeValue). k.bits) (c.is_same_cube.ensures.0 c.if-not-is_same_cube.false)) ∙ ap (λ (s : ShapeValue). s.cube.bits) c.self.view_is in
     let all : All P c.deref.result.now =
-        All-same P c.deref.result.now c.newer.inside.paths.items c.deref.ensures.value
-        (All-from_get_or P c.newer.inside.paths.items []
-        (λ i low. omega (arith, bits, (fit_of c.newer.invariant.placed i low).fits))) in
+    All-same P c.deref.result.now c.newer.inside.paths.items c.deref.ensures.value
+    (All-from_get_or P c.newer.inside.paths.items []
+    (λ i low. omega (arith, bits, (fit_of c.newer.invariant.placed i low).fits))) in
     All-take P (length c.deref.result.now - c.min-known.result) (drop c.min-known.result c.deref.result.now)
-        (All-drop P c.min-known.result c.deref.result.now all)
+    (All-drop P c.min-known.result c.deref.result.now all)

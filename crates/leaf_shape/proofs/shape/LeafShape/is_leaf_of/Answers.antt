@@ -13,7 +13,7 @@ returns-in-Some-list c = λ said.
     let none : is_some c.index.result.now.below ≡ false = sym c.is_some.ensures ∙ c.if-is_some.false in
     let low : c.args.list < length c.self.inside.places.items = omega (arith, ap length c.deref.ensures.value, c.in-Some.ensures.lookup.3.0) in
     let at : c.in-Some.place.now ≡ get_or c.self.inside.places.items c.args.list c.in-Some.place.now =
-        c.in-Some.ensures.lookup.1 ∙ ap (λ (qs : List Place). get_or qs c.args.list c.in-Some.place.now) c.deref.ensures.value in
+    c.in-Some.ensures.lookup.1 ∙ ap (λ (qs : List Place). get_or qs c.args.list c.in-Some.place.now) c.deref.ensures.value in
     let P : ShapeValue → Type 0 = λ s. IsListOf s.cube s.paths c.args.p.now c.args.list in
     subst P c.self.view_is
     (hint_holds c.self.invariant.placed c.args.p.now c.args.list c.in-Some.place.now c.index.result.now (omega (arith, low, c.self.invariant.placed.len)) at

@@ -11,19 +11,19 @@ octant-octant-requires-clause-splits c = walk_splits c.self.invariant.placed c.i
 pub overflow_add-first : goal.overflow_add-first
 overflow_add-first c =
     let low : c.in-Some.first + c.octant-octant.result < length c.self.inside.nodes.items =
-        next_within c.self.invariant.placed c.in-Some.first c.octant-octant.result c.loop-node.invariant c.in-Some.is c.octant-octant.ensures.below in
+    next_within c.self.invariant.placed c.in-Some.first c.octant-octant.result c.loop-node.invariant c.in-Some.is c.octant-octant.ensures.below in
     omega (arith, low, c.from.ensures, c.self.inside.nodes.ok.0, c.self.invariant.few_nodes)
 
 pub overflow_cast-first : goal.overflow_cast-first
 overflow_cast-first c =
     let low : c.in-Some.first + c.octant-octant.result < length c.self.inside.nodes.items =
-        next_within c.self.invariant.placed c.in-Some.first c.octant-octant.result c.loop-node.invariant c.in-Some.is c.octant-octant.ensures.below in
+    next_within c.self.invariant.placed c.in-Some.first c.octant-octant.result c.loop-node.invariant c.in-Some.is c.octant-octant.ensures.below in
     omega (arith, low, c.from.ensures, c.self.inside.nodes.ok.0, c.self.invariant.few_nodes)
 
 pub index-node-requires-in-Some : goal.index-node-requires-in-Some
 index-node-requires-in-Some c =
     let low : c.in-Some.first + c.octant-octant.result < length c.self.inside.nodes.items =
-        next_within c.self.invariant.placed c.in-Some.first c.octant-octant.result c.loop-node.invariant c.in-Some.is c.octant-octant.ensures.below in
+    next_within c.self.invariant.placed c.in-Some.first c.octant-octant.result c.loop-node.invariant c.in-Some.is c.octant-octant.ensures.below in
     omega (arith, low, c.from.ensures, c.self.inside.nodes.ok.0)
 
 pub child-cube-requires-clause-splits : goal.child-cube-requires-clause-splits
@@ -32,11 +32,11 @@ child-cube-requires-clause-splits c = walk_splits c.self.invariant.placed c.in-S
 pub loop-node-preserved : goal.loop-node-preserved
 loop-node-preserved c =
     let low : c.in-Some.first + c.octant-octant.result < length c.self.inside.nodes.items =
-        next_within c.self.invariant.placed c.in-Some.first c.octant-octant.result c.loop-node.invariant c.in-Some.is c.octant-octant.ensures.below in
+    next_within c.self.invariant.placed c.in-Some.first c.octant-octant.result c.loop-node.invariant c.in-Some.is c.octant-octant.ensures.below in
     let read : c.index-node-in-Some.result.now ≡ node c.self.inside.nodes.items (c.in-Some.first + c.from.result) =
-        c.index-node-in-Some.ensures
-        ∙ get_or_default c.self.inside.nodes.items (c.in-Some.first + c.from.result) c.index-node-in-Some.result.now bare
-        (omega (arith, low, c.from.ensures)) in
+    c.index-node-in-Some.ensures
+    ∙ get_or_default c.self.inside.nodes.items (c.in-Some.first + c.from.result) c.index-node-in-Some.result.now bare
+    (omega (arith, low, c.from.ensures)) in
     walk_on c.self.invariant.placed c.index-node-in-Some.result.now c.child-cube.result c.unwrap_or-list-in-Some.result c.in-Some.first
     c.octant-octant.result (c.in-Some.first + c.from.result) c.loop-node.invariant c.in-Some.is c.octant-octant.ensures.value
     (ap (λ n. c.in-Some.first + n) c.from.ensures) read c.child-cube.ensures c.unwrap_or-list-in-Some.ensures

@@ -16,10 +16,10 @@ invariant_of-result c =
     let place : Place = record { cube = c.args.cube; node = 0 } in
     let nodes : c.push.new.self.items ≡ root ∷ [] = c.in_ok-push.ensures.items ∙ ap (λ (ns : List Node). ns ++ root ∷ []) c.in_ok-nodes.ensures.items in
     let paths : c.push-2.new.self.items ≡ [] ∷ [] =
-        c.in_ok-push-2.ensures.items ∙ ap (λ (ps : List (List ℕ)). ps ++ c.root.result ∷ [])
-            c.in_ok-paths.ensures.items ∙ ap (λ (q : List ℕ). q ∷ []) c.root.ensures in
+    c.in_ok-push-2.ensures.items ∙ ap (λ (ps : List (List ℕ)). ps ++ c.root.result ∷ [])
+    c.in_ok-paths.ensures.items ∙ ap (λ (q : List ℕ). q ∷ []) c.root.ensures in
     let places : c.push-3.new.self.items ≡ place ∷ [] = c.in_ok-push-3.ensures.items
-        ∙ ap (λ (qs : List Place). qs ++ place ∷ []) c.in_ok-places.ensures.items in
+    ∙ ap (λ (qs : List Place). qs ++ place ∷ []) c.in_ok-places.ensures.items in
     let none : c.new.result.items ≡ [] = c.new.ensures.items in
     let F : List Opening → Type 0 = λ os. All (λ (o : Opening). length o.path + 7 ≤ c.args.cube.bits) os in
     let zero : blocks c.new.result.items ≡ 0 = ap blocks none in

@@ -16,7 +16,7 @@ invariant_of-self-2 c =
     record {
       placed = placed_same c.self.inside.cube c.self.inside.nodes.items c.reserve.new.self.items c.self.inside.paths.items c.reserve-2.new.self.items
           c.self.inside.places.items c.reserve-3.new.self.items c.in_ok-reserve.ensures.items
-              c.in_ok-reserve-2.ensures.items c.in_ok-reserve-3.ensures.items c.self.invariant.placed;
+          c.in_ok-reserve-2.ensures.items c.in_ok-reserve-3.ensures.items c.self.invariant.placed;
       fit = fit_from_paths c.self.inside.cube c.args.paths.now ready c.in_ok-ready.ensures.paths (subst P (sym c.self.view_is) c.requires);
       shared = c.in_ok-ready.ensures.shared;
       node_room = omega (arith, count, c.in_ok-reserve.ensures.ok);

@@ -1,0 +1,10 @@
+pub mod ChildrenLaws
+pub mod CubeLaws
+pub mod LeafListLaws
+pub mod ListLaws
+pub mod NodeLaws
+pub mod OpenLaws
+pub mod OpeningLaws
+pub mod RootLaws
+pub mod ShapeLaws
+pub mod WalkLaws

@@ -1,0 +1,4 @@
+pub mod Kept
+pub mod Openings
+pub mod Shapes
+pub mod Tables

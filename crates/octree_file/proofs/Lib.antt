@@ -1,0 +1,7 @@
+pub mod CodeLaws
+pub mod OrderLaws
+pub mod PointLaws
+pub mod SameFileLaws
+pub mod SpellingLaws
+pub mod VoxelLaws
+pub mod WritingLaws

@@ -1,0 +1,5 @@
+pub mod Descent
+pub mod Files
+pub mod Order
+pub mod Reading
+pub mod Spelling

@@ -1,4 +1,3 @@
-pub mod CodeLaws
 pub mod OrderLaws
 pub mod PointLaws
 pub mod SameFileLaws

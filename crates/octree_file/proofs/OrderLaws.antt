@@ -9,7 +9,7 @@ use Rattle.std.proofs.lemmas.List.Sums.{sum_by-cons}
 use Rattle.cube_math.specs.Points.{PointValue}
 use Rattle.cube_math.proofs.Halves.{distance_is}
 use Rattle.octree_model.specs.Bags.{IsSameBag}
-use Rattle.octree_file.specs.Order.{IsCoordinate, IsPoint, NeverFalls, above_lowest, order_key, with_point, in_order}
+use Rattle.octree_file.specs.Order.{IsCoordinate, IsPoint, above_lowest, order_key, with_point, in_order}
 
 -- ---- the key of a point
 -- two numbers with a last digit give their parts back
@@ -99,27 +99,6 @@ first_with p (q ∷ qs) h = put_before p q qs h.0
 pub order_stays : (ps : List PointValue) → InOrder ps → in_order ps ≡ ps
 order_stays [] h = refl
 order_stays (p ∷ ps) h = ap (with_point p) (order_stays ps h.1) ∙ first_with p ps h.0
-
--- a list that never falls is in order
-pub order_from_steps : (n : ℕ) (ps : List PointValue) → NeverFalls n ps → AllFrom n ps × InOrder ps
-order_from_steps n [] h = (tt, tt)
-order_from_steps n (p ∷ ps) h =
-    let rest = order_from_steps (order_key p) ps h.1 in
-    ((h.0, lower_from n (order_key p) ps h.0 rest.0), rest)
-
-pub steps_from_order : (n : ℕ) (ps : List PointValue) → AllFrom n ps → InOrder ps → NeverFalls n ps
-steps_from_order n [] from h = tt
-steps_from_order n (p ∷ ps) from h = (from.0, steps_from_order (order_key p) ps h.0 h.1)
-
-from_zero : (ps : List PointValue) → AllFrom 0 ps
-from_zero [] = tt
-from_zero (p ∷ ps) = (omega arith, from_zero ps)
-
-pub steps_in_order : (ps : List PointValue) → NeverFalls 0 (in_order ps)
-steps_in_order ps = steps_from_order 0 (in_order ps) (from_zero (in_order ps)) (is_in_order ps)
-
-pub steps_stay : (ps : List PointValue) → NeverFalls 0 ps → in_order ps ≡ ps
-steps_stay ps h = order_stays ps (order_from_steps 0 ps h).1
 
 all_from : (n : ℕ) (ps : List PointValue) → ((j : ℕ) (d : PointValue) → j < length ps → n ≤ order_key (get_or ps j d)) → AllFrom n ps
 all_from n [] h = tt

@@ -1,5 +1,5 @@
 -- The order in which a file has the points of a leaf.
-use Rattle.std.specs.Prelude.{ℕ, ℤ, negsuc, FitsSigned, ◌+◌, ◌*◌, ◌^◌, ◌<◌, ◌≤◌, List, [], ◌∷◌, nat_lt, if◌then◌else◌}
+use Rattle.std.specs.Prelude.{ℕ, ℤ, negsuc, FitsSigned, ◌+◌, ◌*◌, ◌^◌, ◌<◌, List, [], ◌∷◌, nat_lt, if◌then◌else◌}
 use Rattle.std.specs.Int.{w32}
 use Rattle.cube_math.specs.Points.{PointValue}
 use Rattle.cube_math.specs.Cubes.{distance}
@@ -32,8 +32,3 @@ with_point p (q ∷ qs) = if nat_lt (order_key q) (order_key p) then q ∷ with_
 abbrev pub in_order : List PointValue → List PointValue
 in_order [] = []
 in_order (p ∷ ps) = with_point p (in_order ps)
-
--- no point of a list has a key below n or below that of the point before it
-abbrev pub NeverFalls : ℕ → List PointValue → Type 0
-NeverFalls n [] = Unit {0}
-NeverFalls n (p ∷ ps) = (n ≤ order_key p) × NeverFalls (order_key p) ps

@@ -4,7 +4,6 @@
 mod file;
 mod laws;
 mod order;
-mod source;
 #[cfg(test)]
 mod tests;
 mod writing;

@@ -1,5 +1,5 @@
-ghost use Rattle.std.specs.Prelude.{◌≡◌, ◌↔◌, ◌<◌, ◌^◌, IfOk, IsTrue};
-ghost use Rattle.octree_file.specs.Order.{IsPoint, NeverFalls, above_lowest, in_order, order_key};
+ghost use Rattle.std.specs.Prelude.{◌≡◌, ◌<◌, ◌^◌, IfOk};
+ghost use Rattle.octree_file.specs.Order.{IsPoint, above_lowest, in_order, order_key};
 
 use cube_math::Point;
 use std::alloc::{AllocError, Global};
@@ -14,21 +14,6 @@ pub fn in_order(alloc: Global, points: &[Point]) -> Result<Vec<Point>, AllocErro
     }
     sorted.sort_unstable_by_key(|p| order_key(p));
     Ok(sorted)
-}
-
-/// Whether the points stand in the order of files.
-pub fn are_in_order(points: &[Point]) -> bool
-    ensures { IsTrue result ↔ NeverFalls 0 points.now }
-{
-    let mut last = 0;
-    for p in points {
-        let key = order_key(p);
-        if key < last {
-            return false;
-        }
-        last = key;
-    }
-    true
 }
 
 /// The point, of which is known that it is one.

@@ -26,7 +26,8 @@ loop-t-init t c =
       written =
           ap (λ (ts : List Tree). c.write_voxels.new.out.items ++ flat_map spelling ts) items
           ∙ node_written c.args.tree.now c.in-Inner.node c.args.out.now.items c.write_voxels.new.out.items c.in-Inner.is
-          (c.in_ok-write_voxels.ensures ∙ ap (λ (vs : List VoxelValue). c.args.out.now.items ++ ((1 ∷ u32_bytes (length vs)) ++ flat_map voxel_bytes vs))
+          (c.in_ok-write_voxels-in-Inner.ensures ∙ ap
+          (λ (vs : List VoxelValue). c.args.out.now.items ++ ((1 ∷ u32_bytes (length vs)) ++ flat_map voxel_bytes vs))
           c.voxels.ensures);
     }
 

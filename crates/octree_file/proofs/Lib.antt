@@ -1,0 +1,6 @@
+pub mod OrderLaws
+pub mod PointLaws
+pub mod SameFileLaws
+pub mod SpellingLaws
+pub mod VoxelLaws
+pub mod WritingLaws

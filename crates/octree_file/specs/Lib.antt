@@ -1,0 +1,4 @@
+pub mod Descent
+pub mod Files
+pub mod Order
+pub mod Spelling

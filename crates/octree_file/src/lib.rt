@@ -1,0 +1,12 @@
+//! Files of octrees: an octree saved as bytes, and the octree of a file, which is checked whole.
+#![tactic(auto)]
+
+mod file;
+mod laws;
+mod order;
+#[cfg(test)]
+mod tests;
+mod writing;
+
+pub use file::tree_file;
+pub use laws::same_points_have_same_file;

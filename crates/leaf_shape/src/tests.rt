@@ -96,6 +96,9 @@ fn a_leaf_below_a_leaf_has_the_longer_path(rt: HostRuntime) -> Result<(), Fail> 
     let mut shape = LeafShape::new(rt.alloc(), cube)?;
     // The root is split, and its octant 1 at once.
     let mut paths = octants(rt.alloc(), &Path::root())?;
+    if paths.len() != 8 {
+        return Err("not eight octants".into());
+    }
     let below = octants(rt.alloc(), &paths.remove(1))?;
     paths.extend_from_slice(&below)?;
     assert_eq!(rt; open_lists(rt.alloc(), &mut shape, &paths)?, 1);
@@ -109,7 +112,10 @@ fn a_leaf_below_a_leaf_has_the_longer_path(rt: HostRuntime) -> Result<(), Fail> 
         told(&shape, 15),
         Some((Path::root().child(1).child(7), corner, true))
     );
-    assert!(rt; told(&shape, 0).is_some_and(|(_, _, is_leaf)| !is_leaf));
+    let Some((_, _, is_leaf)) = told(&shape, 0) else {
+        return Err("no list 0".into());
+    };
+    assert!(rt; !is_leaf);
     Ok(())
 }
 
@@ -147,7 +153,7 @@ fn agrees(shape: &LeafShape, dice: &mut Dice) -> bool {
 
 /// Splits the leaf of a point that is drawn, and a child of it now and then. Answers whether it has more than 7 bits.
 fn split_one(alloc: Global, shape: &mut LeafShape, dice: &mut Dice) -> Result<bool, Fail> {
-    let side = 1 << dice.below(13);
+    let side = 256 << dice.below(5);
     let p = at(dice.below(side) as i32, dice.below(side) as i32, 0);
     let list = list_at(shape, &p).unwrap_or(0);
     let Some((path, cube, _)) = told(shape, list) else {

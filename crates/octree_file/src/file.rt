@@ -9,12 +9,7 @@ use octree_model::Tree;
 use std::alloc::{AllocError, Global};
 
 /// The file of the octree in the cube, with the leaf limit, 1 to 50,000, that it was made with.
-pub fn tree_file(
-    alloc: Global,
-    tree: &Tree,
-    cube: &Cube,
-    leaf: u32,
-) -> Result<Vec<u8>, AllocError>
+pub fn tree_file(alloc: Global, tree: &Tree, cube: &Cube, leaf: u32) -> Result<Vec<u8>, AllocError>
     requires limit { IsLimit leaf }
     requires octree { IsTreeOf leaf cube.now tree.now }
     ensures bytes { IfOk result (λ file. file.items ≡ tree_file leaf cube.now tree.now) }

@@ -1,4 +1,4 @@
-//! Files of octrees: an octree saved as bytes, and the octree of a file, which is checked whole.
+//! Files of octrees: an octree saved as bytes.
 #![tactic(auto)]
 
 mod file;

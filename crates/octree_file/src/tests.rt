@@ -37,7 +37,9 @@ fn five_points_take_107_bytes(rt: HostRuntime) -> Result<(), Fail> {
     let tree = least_tree(&cube, points).ok_or("no tree")?;
     let file = tree_file(alloc, &tree, &cube, 2)?;
     assert_eq!(rt; file.len(), 107);
-    assert!(rt; file.starts_with(b"SLOD\x01\x09\0\0\0\x09\0\0\0\x09\0\0\0\x07\x02\0\0\0\0\x05\0\0\0"));
+    assert!(rt;
+        file.starts_with(b"SLOD\x01\x09\0\0\0\x09\0\0\0\x09\0\0\0\x07\x02\0\0\0\0\x05\0\0\0")
+    );
     assert!(rt; file.ends_with(b"\x09\0\0\0\x09\0\0\0\x09\0\0\0\xff\xff\xff\0"));
     Ok(())
 }
@@ -46,7 +48,12 @@ fn five_points_take_107_bytes(rt: HostRuntime) -> Result<(), Fail> {
 fn points_are_written_in_order(rt: HostRuntime) -> Result<(), Fail> {
     let alloc = rt.alloc();
     let cube = Cube::new(-1, 0, 0, 7).ok_or("no cube")?;
-    let points = [white(1, 0, 3), white(1, 2, 0), white(-1, 5, 5), Point::new(1, 0, 3, 0, 0, 1)];
+    let points = [
+        white(1, 0, 3),
+        white(1, 2, 0),
+        white(-1, 5, 5),
+        Point::new(1, 0, 3, 0, 0, 1),
+    ];
     let tree = least_tree(&cube, Vec::from_array(alloc, points)?).ok_or("no tree")?;
     let file = tree_file(alloc, &tree, &cube, 2)?;
     let wanted = b"\xff\xff\xff\xff\x05\0\0\0\x05\0\0\0\xff\xff\xff\0\

@@ -4,8 +4,6 @@
 mod file;
 mod laws;
 mod order;
-#[cfg(test)]
-mod tests;
 mod writing;
 
 pub use file::tree_file;

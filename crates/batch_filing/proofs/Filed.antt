@@ -1,8 +1,7 @@
 -- A filing after one item more.
-use Rattle.std.proofs.Common.{◌≡◌, ℕ, ◌+◌, ◌-◌, ◌<◌, ◌≤◌, ◌^◌, ◌≢◌, ◌⊎◌, Bool, true, false, cond, List, [], ◌∷◌, ◌++◌, length, drop, sym, refl, ap, ◌∙◌, arith, Some, get_or, subst, inl, inr}
-use Rattle.std.specs.Prelude.{nat_eq, slice_get, slice_index, count_by}
+use Rattle.std.proofs.Common.{◌≡◌, ℕ, ◌+◌, ◌<◌, ◌^◌, ◌≢◌, ◌⊎◌, Bool, true, false, cond, List, [], ◌∷◌, ◌++◌, length, drop, sym, refl, ap, ◌∙◌, arith, Some, get_or, subst, inl, inr}
+use Rattle.std.specs.Prelude.{nat_eq, slice_get, slice_index}
 use Rattle.std.proofs.lemmas.Bool.Decides.{nat_tests}
-use Rattle.std.proofs.lemmas.Bool.{cases_Bool}
 use Rattle.std.proofs.lemmas.List.{drop_more}
 use Rattle.std.proofs.lemmas.List.Sums.{sum_by-cons}
 use Rattle.std.proofs.lemmas.Option.{slice_get-get_or, slice_get_within}
@@ -15,7 +14,7 @@ use Rattle.list_machine.proofs.Grants.{used_here, used_else}
 use Rattle.list_words.specs.Filing.{Filing, answer, answered}
 use Rattle.list_words.specs.declared.leaf_lists.Answer.{Answer}
 use Rattle.list_words.specs.declared.leaf_lists.Filed.{Filed}
-use Rattle.batch_filing.specs.Filings.{AreAnswersOf, IsFilerOf, times}
+use Rattle.batch_filing.specs.Filings.{IsFilerOf, times}
 
 -- an element counts once among those that begin with it
 self_counts : (h : ℕ) (rest : List ℕ) → times h (h ∷ rest) ≡ 1 + times h rest
@@ -34,6 +33,7 @@ used_by_next : (l h : ℕ) (rest : List ℕ) (gs : List Grant) → ((k : ℕ) �
 used_by_next l h rest gs is = by (nat_eq l h) refl where
   here : granted_in h gs ≡ 1 + times h rest
   here = is h ∙ self_counts h rest
+
   by : (b : Bool) → nat_eq l h ≡ b → granted_in l (use_grant h gs) ≡ times l rest
   by true e =
       let same : l ≡ h = grind (arith, nat_tests) in
@@ -61,19 +61,23 @@ filed_next first tried lists filer filed old more = record {
   numbered = old.numbered;
   many = many;
   answers = record { few = let m = many in omega arith; each = each };
-  granted = λ k. used_by_next k (slice_index lists tried) (drop (tried + 1) lists) filer.left (left_is tried lists filer.left old.granted more) } where
+  granted = λ k. used_by_next k (slice_index lists tried) (drop (tried + 1) lists) filer.left (left_is tried lists filer.left old.granted more);
+} where
   last : Answer
   last = answer (slice_index lists tried) (first + tried) filed
+
   many : length (filer.answers ++ last ∷ []) ≡ tried + 1
   many = length_push filer.answers last ∙ ap (λ (n : ℕ). n + 1) old.many
+
   each : (k : ℕ) (a : Answer) → slice_get (filer.answers ++ last ∷ []) k ≡ Some a → (a.item ≡ first + k) × (slice_get lists k ≡ Some a.list)
   each k a is = by (slice_get-push filer.answers last a k is) where
     by : (slice_get filer.answers k ≡ Some a) ⊎ ((k ≡ length filer.answers) × (last ≡ a)) → (a.item ≡ first + k) × (slice_get lists k ≡ Some a.list)
     by (inl old_one) = old.answers.each k a old_one
     by (inr (at, same)) =
-        let here : k ≡ tried = at ∙ old.many in
-        (ap (λ (x : Answer). x.item) (sym same) ∙ ap (λ (n : ℕ). first + n) (sym here),
-         ap (slice_get lists) here ∙ slice_get-get_or lists tried 0 more ∙ ap (λ (x : Answer). Some x.list) same)
+        let here : k ≡ tried = at ∙ old.many in (
+          ap (λ (x : Answer). x.item) (sym same) ∙ ap (λ (n : ℕ). first + n) (sym here),
+          ap (slice_get lists) here ∙ slice_get-get_or lists tried 0 more ∙ ap (λ (x : Answer). Some x.list) same,
+        )
 
 -- the next item's list has a slot for it
 pub may_file : (first tried : ℕ) (lists : List ℕ) (filer : Filing) → IsFilerOf first lists tried filer → tried < length lists → 0 < granted_in (slice_index lists tried) filer.left
@@ -89,7 +93,8 @@ fresh_filer first lists filer few none granted = record {
   numbered = few;
   many = ap length none;
   answers = record { few = let n : length filer.answers ≡ 0 = ap length none in omega arith; each = each };
-  granted = granted } where
+  granted = granted;
+} where
   each : (k : ℕ) (a : Answer) → slice_get filer.answers k ≡ Some a → (a.item ≡ first + k) × (slice_get lists k ≡ Some a.list)
   each k a is = let within = slice_get_within filer.answers k a is in let n : length filer.answers ≡ 0 = ap length none in absurd (omega arith)
 
@@ -99,9 +104,12 @@ pub answer_of_each : (first k : ℕ) (lists : List ℕ) (filer : Filing) → IsF
 answer_of_each first k lists filer all within = (a, here, facts.0, facts.1) where
   default : Answer
   default = answer 0 0 (At 0 0)
+
   a : Answer
   a = get_or filer.answers k default
+
   here : slice_get filer.answers k ≡ Some a
   here = let many = all.many in slice_get-get_or filer.answers k default (omega arith)
+
   facts : (a.item ≡ first + k) × (slice_get lists k ≡ Some a.list)
   facts = all.answers.each k a here

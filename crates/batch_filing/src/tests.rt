@@ -1,4 +1,4 @@
-ghost use Rattle.std.specs.Prelude.{◌≡◌, ℕ, [], ◌∷◌, IfOk, length};
+ghost use Rattle.std.specs.Prelude.{⊤, ◌≡◌, ◌<◌, ℕ, [], ◌∷◌, IfOk, length};
 ghost use Rattle.batch_filing.specs.Filings.{FilingValue};
 ghost use Rattle.list_words.specs.Filing.{Filing as FilerValue};
 
@@ -135,7 +135,13 @@ fn items_are_filed_in_order_each_in_its_list(rt: HostRuntime) -> Result<(), Fail
     for (answer, (list, item)) in filing.answers().iter().zip(expected.iter()) {
         assert_eq!(rt; answer.list, *list);
         assert_eq!(rt; answer.item, *item);
-        assert_eq!(rt; answer.filed, Filed::At { chunk: *list, slot: *item });
+        assert_eq!(rt;
+            answer.filed,
+            Filed::At {
+                chunk: *list,
+                slot: *item
+            }
+        );
     }
     let (batch, filer) = filing.into_parts();
     assert_eq!(rt; batch.points().len(), 3);

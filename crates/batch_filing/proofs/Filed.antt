@@ -4,7 +4,7 @@ use Rattle.std.specs.Prelude.{nat_eq, slice_get, slice_index}
 use Rattle.std.proofs.lemmas.Bool.Decides.{nat_tests}
 use Rattle.std.proofs.lemmas.List.{drop_more}
 use Rattle.std.proofs.lemmas.List.Sums.{sum_by-cons}
-use Rattle.std.proofs.lemmas.Option.{slice_get-get_or, slice_get_within}
+use Rattle.std.proofs.lemmas.Option.{get_or_from_slice_get, slice_get-get_or, slice_get_read, slice_get_within}
 use Rattle.list_machine.specs.Grants.{granted_in, use_grant}
 use Rattle.list_machine.specs.declared.views.Grant.{Grant}
 use Rattle.std.proofs.lemmas.List.{length_push}
@@ -79,8 +79,17 @@ filed_next first tried lists filer filed old more = record {
           ap (slice_get lists) here ∙ slice_get-get_or lists tried 0 more ∙ ap (λ (x : Answer). Some x.list) same,
         )
 
+-- the same, where the list was read at the item's place
+pub filed_there : (first tried : ℕ) (lists : List ℕ) (filer : Filing) (filed : Filed) (list : ℕ) → IsFilerOf first lists tried filer
+    → tried < length lists → list ≡ get_or lists tried list → IsFilerOf first lists (tried + 1) (answered filer list (first + tried) filed)
+filed_there first tried lists filer filed list old more read =
+    subst (λ l. IsFilerOf first lists (tried + 1) (answered filer l (first + tried) filed)) (sym at) (filed_next first tried lists filer filed old more) where
+      at : list ≡ slice_index lists tried
+      at = sym (get_or_from_slice_get lists tried list 0 (slice_get_read lists (length lists) tried list refl more read))
+
 -- the next item's list has a slot for it
-pub may_file : (first tried : ℕ) (lists : List ℕ) (filer : Filing) → IsFilerOf first lists tried filer → tried < length lists → 0 < granted_in (slice_index lists tried) filer.left
+pub may_file : (first tried : ℕ) (lists : List ℕ) (filer : Filing) → IsFilerOf first lists tried filer → tried < length lists
+    → 0 < granted_in (slice_index lists tried) filer.left
 may_file first tried lists filer old more =
     let here = left_is tried lists filer.left old.granted more (slice_index lists tried) in
     let one = self_counts (slice_index lists tried) (drop (tried + 1) lists) in

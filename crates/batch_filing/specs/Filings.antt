@@ -1,5 +1,5 @@
 -- A batch that was admitted and is being filed.
-use Rattle.std.specs.Prelude.{◌≡◌, ℕ, ◌+◌, ◌^◌, ◌<◌, ◌≤◌, List, count_by, drop, length, Some, nat_eq, slice_get}
+use Rattle.std.specs.Prelude.{◌≡◌, ℕ, ◌+◌, ◌^◌, ◌<◌, ◌≤◌, List, count_by, drop, length, Some, nat_eq, slice_get, slice_index}
 use Rattle.cube_math.specs.Batches.{BatchValue}
 use Rattle.list_machine.specs.Grants.{granted_in}
 use Rattle.list_words.specs.Filing.{Filing}
@@ -14,6 +14,18 @@ pub record FilingValue (F : Type 0) : Type 0 where
   pub lists : List ℕ
   pub tried : ℕ
   pub filer : F
+
+-- the list of the item that is filed next
+abbrev pub next_list : {F : Type 0} → FilingValue F → ℕ
+next_list f = slice_index f.lists f.tried
+
+-- its number
+abbrev pub next_item : {F : Type 0} → FilingValue F → ℕ
+next_item f = f.first + f.tried
+
+-- once one item more was tried
+abbrev pub one_tried : {F : Type 0} → FilingValue F → F → FilingValue F
+one_tried f filer = record f { tried = f.tried + 1; filer = filer }
 
 -- how many of the lists are this one
 abbrev pub times : ℕ → List ℕ → ℕ

@@ -7,7 +7,7 @@ ghost use Rattle.list_words.specs.declared.leaf_lists.Seen.TheVariants.{Shut as 
 ghost use Rattle.list_words.specs.declared.leaf_lists.Phase.TheVariants.{Shut};
 ghost use Rattle.list_words.specs.Plain.{list_in, with_list};
 ghost use Rattle.list_words.specs.PlainRows.{filed_list};
-ghost use Rattle.batch_filing.specs.Filings.{FilingValue, IsFilerOf, times};
+ghost use Rattle.batch_filing.specs.Filings.{FilingValue, IsFilerOf, next_item, next_list, one_tried, times};
 
 use cube_math::Batch;
 use list_words::{Answer, Filed, Filings, PlainFiler, PlainLists, SharedFiler};
@@ -129,9 +129,9 @@ impl<F: SharedFiler> Filing<F> {
     pub fn file_next<L: Ledger>(&mut self, lists: &F::Lists, steps: &mut Steps<L>) -> Filed
         requires name { (F.filing self.old.filer).name ≡ F.Lists.name lists.now }
         requires left { self.old.tried < length self.old.batch.points }
-        ensures next { self.new ≡ record self.old { tried = self.old.tried + 1; filer = self.new.filer } }
-        ensures answered { F.filing self.new.filer ≡ answered (F.filing self.old.filer) (slice_index self.old.lists self.old.tried) (self.old.first + self.old.tried) result }
-        ensures shown { F.shows self.new.filer (slice_index self.old.lists self.old.tried) (self.old.first + self.old.tried) result }
+        ensures next { self.new ≡ one_tried self.old self.new.filer }
+        ensures answered { F.filing self.new.filer ≡ answered (F.filing self.old.filer) (next_list self.old) (next_item self.old) result }
+        ensures shown { F.shows self.new.filer (next_list self.old) (next_item self.old) result }
         ensures kept { (l x : ℕ) (filed : Filed) → F.shows self.old.filer l x filed → F.shows self.new.filer l x filed }
         ensures rises { F.walked self.old.filer ≤ F.walked self.new.filer }
         ensures most { F.walked self.new.filer ≤ F.Lists.chunks lists.now }
@@ -150,12 +150,12 @@ impl Filing<PlainFiler> {
     /// Files the next item in its list, among lists of one thread.
     pub fn file_plain(&mut self, lists: &mut PlainLists) -> Filed
         requires left { self.old.tried < length self.old.batch.points }
-        requires room { ((list_in lists.old.lists (slice_index self.old.lists self.old.tried)).phase ≡ Shut → ⊥)
-            → length (list_in lists.old.lists (slice_index self.old.lists self.old.tried)).filed < (list_in lists.old.lists (slice_index self.old.lists self.old.tried)).granted }
-        ensures next { self.new ≡ record self.old { tried = self.old.tried + 1; filer = answered self.old.filer (slice_index self.old.lists self.old.tried) (self.old.first + self.old.tried) result } }
-        ensures late { (list_in lists.old.lists (slice_index self.old.lists self.old.tried)).phase ≡ Shut → (result ≡ Late SawShut) × (lists.new ≡ lists.old) }
-        ensures filed { ((list_in lists.old.lists (slice_index self.old.lists self.old.tried)).phase ≡ Shut → ⊥)
-            → lists.new ≡ with_list lists.old (slice_index self.old.lists self.old.tried) (filed_list (list_in lists.old.lists (slice_index self.old.lists self.old.tried)) (self.old.first + self.old.tried)) }
+        requires room { ((list_in lists.old.lists (next_list self.old)).phase ≡ Shut → ⊥)
+            → length (list_in lists.old.lists (next_list self.old)).filed < (list_in lists.old.lists (next_list self.old)).granted }
+        ensures next { self.new ≡ one_tried self.old (answered self.old.filer (next_list self.old) (next_item self.old) result) }
+        ensures late { (list_in lists.old.lists (next_list self.old)).phase ≡ Shut → (result ≡ Late SawShut) × (lists.new ≡ lists.old) }
+        ensures filed { ((list_in lists.old.lists (next_list self.old)).phase ≡ Shut → ⊥)
+            → lists.new ≡ with_list lists.old (next_list self.old) (filed_list (list_in lists.old.lists (next_list self.old)) (next_item self.old)) }
     {
         let list = self.lists[self.tried as usize];
         let item = self.first + self.tried;

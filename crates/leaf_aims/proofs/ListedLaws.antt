@@ -1,5 +1,5 @@
 -- Lists that belong to the leaves of an octree that grows.
-use Rattle.std.proofs.Common.{◌≡◌, ◌⊎◌, ℕ, ◌<◌, inl, inr, Bool, true, false, List, ◌++◌, length, Contains, IsTrue, refl, sym, ◌∙◌, subst, arith}
+use Rattle.std.proofs.Common.{◌≡◌, ◌⊎◌, ℕ, ◌<◌, ◌≤◌, inl, inr, Bool, true, false, List, ◌++◌, length, Contains, IsTrue, refl, sym, ◌∙◌, subst, arith}
 use Rattle.std.proofs.lemmas.Bool.{and_parts, and_from, lt-ltb, ltb-true}
 use Rattle.cube_math.specs.Points.{PointValue}
 use Rattle.cube_math.specs.Cubes.{contains, cube_at}
@@ -23,22 +23,27 @@ OneLeaf config =
     (points : List PointValue) (p : PointValue) (path other : List ℕ) → IsTrue (is_leaf_of config points path) → IsTrue (is_leaf_of config points other)
     → IsTrue (contains (cube_at config.cube path) p) → IsTrue (contains (cube_at config.cube other) p) → path ≡ other
 
-module _ (config : Config) (before batch : List PointValue) (point : ℕ → PointValue) (lists : ℕ) (path : ℕ → List ℕ) (born : ℕ → ℕ) (s : Store) (leaf : ℕ → ℕ)
-    (homes splits : List ℕ) (one : OneLeaf config) (h : AreListed config before batch point (length homes) lists path born s leaf splits) where
+module _ (config : Config) (before batch : List PointValue) (point : ℕ → PointValue) (lists : ℕ) (path : ℕ → List ℕ) (born ended : ℕ → ℕ) (s : Store)
+    (leaf : ℕ → ℕ) (homes splits : List ℕ) (one : OneLeaf config)
+    (h : AreListed config before batch point (length homes) lists path born ended s leaf splits) where
   abbrev covers : ℕ → ℕ → Bool
-  covers = covers_of config point (length homes) lists path
+  covers = covers_of config point ended lists path
 
   abbrev guest : ℕ → ℕ → Bool
   guest = guest_of config point path born
 
   item_of : (l x : ℕ) → IsTrue (covers l x) → x < length homes
-  item_of l x can = ltb-true x (length homes) (and_parts _ _ can).0
+  item_of l x can = let early : x < ended l = ltb-true x (ended l) (and_parts _ _ can).0 in let few : ended l ≤ length homes = h.few l in omega arith
 
   list_of : (l x : ℕ) → IsTrue (covers l x) → l < lists
   list_of l x can = ltb-true l lists (and_parts _ _ (and_parts _ _ can).1).0
 
   has_of : (l x : ℕ) → IsTrue (covers l x) → IsTrue (contains (cube_at config.cube (path l)) (point x))
   has_of l x can = (and_parts _ _ (and_parts _ _ can).1).1
+
+  -- the leaf of an open list has not ended
+  lasting : (l x : ℕ) → IsOpen s l → x < length homes → x < ended l
+  lasting l x o low = let all : ended l ≡ length homes = h.lasts l o in omega arith
 
   -- an open list of a leaf in which a point lies is that of the point's leaf
   own_list : (l x : ℕ) → x < length homes → IsOpen s l → IsTrue (is_leaf_of config (before ++ batch) (path l))
@@ -74,7 +79,7 @@ module _ (config : Config) (before batch : List PointValue) (point : ℕ → Poi
         let has : IsTrue (contains (cube_at config.cube (path l)) (point x)) = (and_parts _ _ (homed.guests l x o low e)).1 in
         elim (h.open_is l o) [
           | inr is ↦ inl (own_list l x low o is has)
-          | inl split ↦ inr (split, and_from _ _ (lt-ltb x (length homes) low) (and_from _ _ (lt-ltb l lists (h.below l o)) has))
+          | inl split ↦ inr (split, and_from _ _ (lt-ltb x (ended l) (lasting l x o low)) (and_from _ _ (lt-ltb l lists (h.below l o)) has))
         ];
     admitted = item_of;
     here = λ l x can. elim (h.opened l (list_of l x can)) [

@@ -1,60 +1,66 @@
-ghost use Rattle.std.specs.Prelude.{ℕ, ◌≡◌, ◌+◌, ◌*◌, ◌<◌, ◌≤◌, ◌^◌, List, ◌++◌, length, All, IfOk, MatchResult};
+ghost use Rattle.std.specs.Prelude.{ℕ, ◌≡◌, ◌+◌, ◌*◌, ◌<◌, ◌≤◌, List, ◌++◌, length, All, IfOk, IfSome, IsSomeAnd, IsTrue};
 ghost use Rattle.std.specs.List.{flat_map};
 ghost use Rattle.cube_math.specs.Points.{PointValue};
 ghost use Rattle.octree_file.specs.Order.{IsPoint};
 ghost use Rattle.octree_file.specs.Spelling.{point_bytes};
 ghost use Rattle.octree_reader.specs.Nodes.{FileNode, IsNode, node_bytes, node_points};
 
-use crate::fault::FileFault;
 use crate::fields::{first_point, u32_at};
 use cube_math::Point;
 use octree_file::{INNER, LEAF};
-use std::alloc::Global;
+use std::alloc::{AllocError, Global};
 
 /// The points of the leaves, where the bytes are nodes one after the other.
-pub fn read_points(alloc: Global, bytes: &[u8]) -> Result<Vec<Point>, FileFault>
-    ensures { (nodes : List FileNode) → All IsNode nodes → bytes.now ≡ flat_map node_bytes nodes
-        → MatchResult result (λ points. points.items ≡ flat_map node_points nodes) (λ fault. fault ≡ Memory) }
+pub fn read_points(alloc: Global, bytes: &[u8]) -> Result<Option<Vec<Point>>, AllocError>
+    ensures { IfOk result (λ found. (nodes : List FileNode) → All IsNode nodes → bytes.now ≡ flat_map node_bytes nodes
+        → IsSomeAnd found (λ points. points.items ≡ flat_map node_points nodes)) }
 {
     let mut points = Vec::new(alloc);
     let mut at = 0;
     while at < bytes.len() {
-        at += read_node(&mut points, &bytes[at..])?;
+        let Some(taken) = read_node(&mut points, &bytes[at..])? else {
+            return Ok(None);
+        };
+        at += taken;
     }
-    Ok(points)
+    Ok(Some(points))
 }
 
-/// Appends the points of the first node. Answers how many bytes it takes.
-fn read_node(points: &mut Vec<Point>, bytes: &[u8]) -> Result<usize, FileFault>
-    ensures within { IfOk result (λ taken. (0 < taken) × (taken ≤ length bytes.now)) }
-    ensures node { (node : FileNode) (rest : List ℕ) → IsNode node → bytes.now ≡ node_bytes node ++ rest
-        → MatchResult result (λ taken. (taken ≡ length (node_bytes node)) × (points.new.items ≡ points.old.items ++ node_points node)) (λ fault. fault ≡ Memory) }
+/// Appends the points of the first node, where the bytes begin with one. Answers how many bytes it takes.
+fn read_node(points: &mut Vec<Point>, bytes: &[u8]) -> Result<Option<usize>, AllocError>
+    ensures within { IfOk result (λ found. IfSome found (λ taken. (0 < taken) × (taken ≤ length bytes.now))) }
+    ensures node { IfOk result (λ found. (node : FileNode) (rest : List ℕ) → IsNode node → bytes.now ≡ node_bytes node ++ rest
+        → IsSomeAnd found (λ taken. (taken ≡ length (node_bytes node)) × (points.new.items ≡ points.old.items ++ node_points node))) }
 {
     if bytes.len() < 5 {
-        return Err(FileFault::Tree);
+        return Ok(None);
     }
     let count = u32_at(bytes, 1) as usize;
-    match bytes[0] {
-        LEAF if count <= (bytes.len() - 5) / 16 => {
-            push_points(points, &bytes[5..], count)?;
-            Ok(5 + 16 * count)
-        }
-        INNER if count <= (bytes.len() - 5) / 8 => Ok(5 + 8 * count),
-        _ => Err(FileFault::Tree),
+    let room = bytes.len() - 5;
+    if bytes[0] == INNER && count <= room / 8 {
+        return Ok(Some(5 + 8 * count));
+    }
+    if bytes[0] != LEAF || count > room / 16 {
+        return Ok(None);
+    }
+    if push_points(points, &bytes[5..], count)? {
+        Ok(Some(5 + 16 * count))
+    } else {
+        Ok(None)
     }
 }
 
-/// Appends so many points.
-fn push_points(points: &mut Vec<Point>, bytes: &[u8], count: usize) -> Result<(), FileFault>
+/// Appends so many points. Answers whether the bytes begin with them.
+fn push_points(points: &mut Vec<Point>, bytes: &[u8], count: usize) -> Result<bool, AllocError>
     requires { 16 * count ≤ length bytes.now }
-    ensures { (more : List PointValue) (rest : List ℕ) → All IsPoint more → length more ≡ count → bytes.now ≡ flat_map point_bytes more ++ rest
-        → MatchResult result (λ _. points.new.items ≡ points.old.items ++ more) (λ fault. fault ≡ Memory) }
+    ensures { IfOk result (λ done. (more : List PointValue) (rest : List ℕ) → All IsPoint more → length more ≡ count
+        → bytes.now ≡ flat_map point_bytes more ++ rest → IsTrue done × (points.new.items ≡ points.old.items ++ more)) }
 {
     for k in 0..count {
         let Some(p) = first_point(&bytes[16 * k..]) else {
-            return Err(FileFault::Tree);
+            return Ok(false);
         };
         points.push(p)?;
     }
-    Ok(())
+    Ok(true)
 }

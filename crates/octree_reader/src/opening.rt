@@ -27,7 +27,9 @@ pub fn open_file(alloc: Global, bytes: &[u8]) -> Result<Saved, FileFault>
     ensures fault { IfErr result (λ fault. IsFaultOf bytes.now fault) }
 {
     let (cube, leaf) = read_head(bytes)?;
-    let points = read_points(alloc, &bytes[HEAD..])?;
+    let Some(points) = read_points(alloc, &bytes[HEAD..])? else {
+        return Err(FileFault::Tree);
+    };
     if !are_within(&points, &cube) {
         return Err(FileFault::Tree);
     }

@@ -1,0 +1,18 @@
+use Rattle.std.proofs.Common.{◌≡◌, ◌+◌, ◌≤◌, arith, rules, ◌∙◌, sym, length, refl}
+use Rattle.std.proofs.lemmas.List.Elements.{recursion_from_All}
+use Rattle.octree_reader.specs.Nodes.{IsNode}
+use Rattle.octree_reader.proofs.FieldLaws.{from_place}
+use Rattle.octree_reader.proofs.NodeLaws.{next_node, no_node_left}
+use Rattle.octree_reader.proofs.nodes.read_points.Goals as goal
+
+pub returns-in_default : goal.returns-in_default
+returns-in_default c = λ nodes each is.
+    let n = next_node _ _ _ _ (c.loop-at.invariant.left nodes each is) c.loop-at-test.true in
+    let told = c.in_ok-taken.ensures.node n.node n.behind n.is (from_place _ _ ∙ n.at) in
+    ?
+
+pub loop-at-preserved : goal.loop-at-preserved
+loop-at-preserved c = ?
+
+pub returns : goal.returns
+returns c = λ nodes each is. no_node_left _ _ _ _ (c.loop-at.invariant.left nodes each is) c.loop-at-test.false

@@ -1,6 +1,9 @@
 -- Numbers and points are read back from their bytes.
-use Rattle.std.proofs.Common.{◌≡◌, ℕ, ◌^◌, ◌<◌, ℤ, pos, negsuc, Bool, true, false, not, nat_eq, List, [], ◌++◌, length, take, drop, get_or, ap, ◌∙◌, sym, subst, refl, w32, arith, ◌≤◌, ◌-◌}
-use Rattle.std.proofs.lemmas.List.{take_all, length-drop}
+use Rattle.std.proofs.Common.{◌≡◌, ℕ, ◌^◌, ◌<◌, ℤ, pos, negsuc, Bool, true, false, not, nat_eq, List, [], ◌∷◌, ◌++◌, ◌+◌, length, take, drop, get_or, ap, ◌∙◌, sym, subst, refl, Option, Some, None, w32, arith, ◌≤◌, ◌-◌}
+use Rattle.std.proofs.lemmas.List.{take_all, take_more, length-drop}
+use Rattle.std.proofs.lemmas.List.Elements.{All-append, All-cons, All-nil}
+use Rattle.std.specs.List.{All}
+use Rattle.std.specs.Option.{IsSome, IsSomeAnd}
 use Rattle.std.specs.Int.{cast_signed, cast_unsigned}
 use Rattle.std.proofs.lemmas.Int.{to_z-of_z}
 use Rattle.std.proofs.lemmas.Bool.Decides.{Decides-eqb}
@@ -42,9 +45,8 @@ pub from_place : (bytes : List ℕ) (place : ℕ) → take (length bytes - place
 from_place bytes place = take_all (length bytes - place) (drop place bytes) (omega (arith, length-drop place bytes))
 
 -- ---- heads
-pub begins : (bytes : List ℕ) (r : Bool) → r ≡ pointwise nat_eq signature (take 5 bytes) → not r ≡ false → HasSignature bytes
-begins bytes true value yes' = ap (take 5) ((starts_is Decides-eqb bytes signature true value).0 refl)
-begins bytes false value no' = cc
+pub begins : (bytes : List ℕ) (r : Bool) → r ≡ pointwise nat_eq signature (take 5 bytes) → r ≡ true → HasSignature bytes
+begins bytes r value is = ap (take 5) ((starts_is Decides-eqb bytes signature r value).0 is)
 
 pub named_cube : (bytes : List ℕ) (x y z : ℤ) (b : ℕ) → x ≡ i32_at bytes 5 → y ≡ i32_at bytes 9 → z ≡ i32_at bytes 13 → b ≡ get_or bytes 17 0
     → record { ox = x; oy = y; oz = z; bits = b } ≡ head_cube bytes
@@ -58,3 +60,26 @@ fits_named bytes c is h = subst Fits is h
 
 pub fits_back : (bytes : List ℕ) (c : CubeValue) → c ≡ head_cube bytes → HasHead bytes → Fits c
 fits_back bytes c is h = subst Fits (sym is) h.fits
+
+-- ---- options
+pub no_some : {T : Type 0} (o : Option T) → o ≡ None → IsSome o → ⊥
+no_some None e h = cc
+no_some (Some x) e h = cc
+
+pub is_some_by : {T : Type 0} (o : Option T) (x : T) → o ≡ Some x → IsSome o
+is_some_by None x e = cc
+is_some_by (Some y) x e = refl
+
+pub none_told : {T : Type 0} (o : Option T) (P : T → Type 0) → o ≡ None → IsSomeAnd o P → ⊥
+none_told None P e h = h
+none_told (Some x) P e h = cc
+
+pub some_told : {T : Type 0} (o : Option T) (x : T) (P : T → Type 0) → o ≡ Some x → IsSomeAnd o P → P x
+some_told {T} o x P e h = let told : IsSomeAnd (Some x) P = subst (λ (v : Option T). IsSomeAnd v P) e h in told
+
+-- ---- lists
+-- what holds of the first elements of a list, and of the next, holds of one element more
+pub one_more : {X : Type 0} (P : X → Type 0) (xs : List X) (i : ℕ) (x : X) → i < length xs → x ≡ get_or xs i x → All P (take i xs) → P x → All P (take (i + 1) xs)
+one_more {X} P xs i x l is before here =
+    let next : take (i + 1) xs ≡ take i xs ++ x ∷ [] = take_more xs i x l ∙ ap (λ (y : X). take i xs ++ y ∷ []) (sym is) in
+    subst (All P) (sym next) (All-append P (take i xs) (x ∷ []) before (All-cons P x [] here (All-nil P)))

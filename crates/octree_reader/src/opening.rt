@@ -35,10 +35,11 @@ pub fn open_file(alloc: Global, bytes: &[u8]) -> Result<Saved, FileFault>
     }
     let tree = build(alloc, &points, cube, leaf)?;
     let file = tree_file(alloc, &tree, &cube, leaf)?;
-    if file.as_slice() != bytes {
-        return Err(FileFault::Tree);
+    if file.as_slice() == bytes {
+        Ok(Saved { cube, leaf, tree })
+    } else {
+        Err(FileFault::Tree)
     }
-    Ok(Saved { cube, leaf, tree })
 }
 
 /// Whether the cube contains all points, and a file can have their octree.

@@ -7,6 +7,8 @@ mod head;
 mod laws;
 mod nodes;
 mod opening;
+#[cfg(test)]
+mod tests;
 
 pub use fault::FileFault;
 pub use laws::files_have_heads;

@@ -10,6 +10,9 @@ use octree_file::SIGNATURE;
 /// How many bytes stand before the nodes.
 pub const HEAD: usize = 22;
 
+/// The greatest leaf limit.
+const MOST: u32 = 50000;
+
 /// The cube and the leaf limit at the beginning of the bytes.
 pub fn read_head(bytes: &[u8]) -> Result<(Cube, u32), FileFault>
     ensures head { IfOk result (λ head. HasHead bytes.now × (head.0 ≡ head_cube bytes.now) × (head.1 ≡ head_leaf bytes.now)) }
@@ -26,7 +29,7 @@ pub fn read_head(bytes: &[u8]) -> Result<(Cube, u32), FileFault>
         return Err(FileFault::Head);
     };
     let leaf = u32_at(bytes, 18);
-    if leaf < 1 || leaf > 50000 {
+    if leaf < 1 || leaf > MOST {
         return Err(FileFault::Head);
     }
     Ok((cube, leaf))

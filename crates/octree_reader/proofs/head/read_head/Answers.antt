@@ -4,7 +4,7 @@ use Rattle.cube_math.specs.Cubes.{CubeValue}
 use Rattle.octree_reader.specs.Heads.{HasHead, HasSignature, head_cube, head_leaf, i32_at, u32_at}
 use Rattle.octree_reader.proofs.FieldLaws.{begins, fits_back, fits_named, is_some_by, named_cube, no_some}
 use Rattle.octree_reader.proofs.head.read_head.Goals as goal
-use Rattle.octree_reader.proofs.head.read_head.Goals.{then-leaf-lt1-via-then-leaf-lt1, then-leaf-lt1-via-else-leaf-lt1+then-leaf-gt50000}
+use Rattle.octree_reader.proofs.head.read_head.Goals.{then-leaf-lt1-via-then-leaf-lt1, then-leaf-lt1-via-else-leaf-lt1+then-leaf-gt-MOST}
 
 pub returns-in_default-clause-fault : goal.returns-in_default-clause-fault
 returns-in_default-clause-fault c =
@@ -21,7 +21,7 @@ returns-then-leaf-lt1-clause-fault c =
     (begins c.args.bytes.now c.starts_with.result c.starts_with.ensures.value c.if-not-starts_with.false,
       λ h. elim c.then-leaf-lt1.branch [
         | then-leaf-lt1-via-then-leaf-lt1 w ↦ omega (arith, h.limit.0, w.if-leaf-lt1.true)
-        | then-leaf-lt1-via-else-leaf-lt1+then-leaf-gt50000 w ↦ omega (arith, h.limit.1, w.if-leaf-gt50000.true)
+        | then-leaf-lt1-via-else-leaf-lt1+then-leaf-gt-MOST w ↦ omega (arith, h.limit.1, w.if-leaf-gt-MOST.true)
       ])
 
 pub returns-clause-head : goal.returns-clause-head
@@ -35,7 +35,7 @@ returns-clause-head c =
       signature = begins c.args.bytes.now c.starts_with.result c.starts_with.ensures.value c.if-not-starts_with.false;
       long = omega arith;
       fits = fits_named c.args.bytes.now _ (named_cube c.args.bytes.now _ _ _ _ x y z b) (c.new.ensures.fits.0 (is_some_by c.new.result _ c.in-Some.is));
-      limit = (omega (arith, leaf, c.if-leaf-lt1.false), omega (arith, leaf, c.if-leaf-gt50000.false));
+      limit = (omega (arith, leaf, c.if-leaf-lt1.false), omega (arith, leaf, c.if-leaf-gt-MOST.false));
     },
       c.in-Some.ensures.value ∙ named_cube c.args.bytes.now _ _ _ _ x y z b,
       leaf)

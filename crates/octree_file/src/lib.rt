@@ -8,3 +8,4 @@ mod writing;
 
 pub use file::tree_file;
 pub use laws::same_points_have_same_file;
+pub use writing::{INNER, LEAF, SIGNATURE};

@@ -79,7 +79,8 @@ some_told {T} o x P e h = let told : IsSomeAnd (Some x) P = subst (λ (v : Optio
 
 -- ---- lists
 -- what holds of the first elements of a list, and of the next, holds of one element more
-pub one_more : {X : Type 0} (P : X → Type 0) (xs : List X) (i : ℕ) (x : X) → i < length xs → x ≡ get_or xs i x → All P (take i xs) → P x → All P (take (i + 1) xs)
+pub one_more : {X : Type 0} (P : X → Type 0) (xs : List X) (i : ℕ) (x : X) → i < length xs → x ≡ get_or xs i x
+    → All P (take i xs) → P x → All P (take (i + 1) xs)
 one_more {X} P xs i x l is before here =
     let next : take (i + 1) xs ≡ take i xs ++ x ∷ [] = take_more xs i x l ∙ ap (λ (y : X). take i xs ++ y ∷ []) (sym is) in
     subst (All P) (sym next) (All-append P (take i xs) (x ∷ []) before (All-cons P x [] here (All-nil P)))

@@ -65,8 +65,13 @@ spelled leaf (suc depth) c ps =
 
 -- ---- each is a node of a file
 leaf_is : (ps : List PointValue) → All IsPoint ps → length ps < 2 ^ 32 → AllByRecursion IsNode (LeafOf (in_order ps) ∷ [])
-leaf_is ps each few =
-    ((All-from_recursion IsPoint (in_order ps) (points_in_order ps (recursion_from_All IsPoint ps each)), omega (arith, same_length ps (in_order ps) (order_keeps ps))), tt)
+leaf_is ps each few = (
+  (
+    All-from_recursion IsPoint (in_order ps) (points_in_order ps (recursion_from_All IsPoint ps each)),
+    omega (arith, same_length ps (in_order ps) (order_keeps ps)),
+  ),
+  tt,
+)
 
 each_append : (ms ns : List FileNode) → AllByRecursion IsNode ms → AllByRecursion IsNode ns → AllByRecursion IsNode (ms ++ ns)
 each_append [] ns hm hn = hn
@@ -83,8 +88,11 @@ are_nodes leaf (suc depth) c ps each few =
     let q : List PointValue = inside c ps in
     let small : length q < 2 ^ 32 = omega (arith, few_inside c ps) in
     elim (cases_lt leaf (length q)) [
-      | inl more ↦ rw (lt-leb _ _ more)
-          (omega (arith, few_voxels c q), each_below (λ g. nodes_at leaf depth (child c g) q) (up_to 8) (λ g. are_nodes leaf depth (child c g) q (points_inside c ps each) small))
+      | inl more ↦ rw (lt-leb _ _ more) (
+        omega (arith, few_voxels c q),
+        each_below (λ g. nodes_at leaf depth (child c g) q) (up_to 8)
+            (λ g. are_nodes leaf depth (child c g) q (points_inside c ps each) small),
+      )
       | inr least ↦ rw (le-leb _ _ least) (leaf_is q (points_inside c ps each) small)
     ]
 
@@ -115,7 +123,8 @@ count_nodes t leaf (suc depth) c ps =
     let q : List PointValue = inside c ps in
     elim (cases_lt leaf (length q)) [
       | inl more ↦ rw (lt-leb _ _ more)
-          (count_trees t (λ g. octree_at leaf depth (child c g) q) (λ g. nodes_at leaf depth (child c g) q) (up_to 8) (λ g. count_nodes t leaf depth (child c g) q)
+          (count_trees t (λ g. octree_at leaf depth (child c g) q) (λ g. nodes_at leaf depth (child c g) q) (up_to 8)
+          (λ g. count_nodes t leaf depth (child c g) q)
           ∙ sym (ap (count_by t) (leaf_points-Inner _)))
       | inr few ↦ rw (le-leb _ _ few) (count_leaf t q)
     ]
@@ -139,7 +148,8 @@ each_passes : (t : PointValue → Bool) (ps : List PointValue) → count_by (λ 
 each_passes t [] none = tt
 each_passes t (p ∷ ps) none = one (t p) refl (each_passes t ps) (omega (arith, count_append (λ q. not (t q)) (p ∷ []) ps))
   where
-    one : (b : Bool) → t p ≡ b → (count_by (λ q. not (t q)) ps ≡ 0 → AllByRecursion (λ q. IsTrue (t q)) ps) → cond (not (t p)) 1 0 + count_by (λ q. not (t q)) ps ≡ 0 → AllByRecursion (λ q. IsTrue (t q)) (p ∷ ps)
+    one : (b : Bool) → t p ≡ b → (count_by (λ q. not (t q)) ps ≡ 0 → AllByRecursion (λ q. IsTrue (t q)) ps)
+        → cond (not (t p)) 1 0 + count_by (λ q. not (t q)) ps ≡ 0 → AllByRecursion (λ q. IsTrue (t q)) (p ∷ ps)
     one true is rest e = (is, rest (omega arith))
     one false is rest e = absurd (omega (arith, ap {B = ℕ} (λ b. cond (not b) 1 0) is))
 

@@ -61,7 +61,8 @@ next_point bytes k count points all rest l more = one l.left l.each l.long l.at 
           };
         }
 
-pub no_point_left : (bytes : List ℕ) (k count : ℕ) (points all : List PointValue) (rest : List ℕ) → PointsLeft bytes k count points all rest → count ≤ k → points ≡ all
+pub no_point_left : (bytes : List ℕ) (k count : ℕ) (points all : List PointValue) (rest : List ℕ) → PointsLeft bytes k count points all rest
+    → count ≤ k → points ≡ all
 no_point_left bytes k count points all rest l none = one l.left l.long l.found
   where
     one : (left : List PointValue) → k + length left ≡ count → points ++ left ≡ all → points ≡ all
@@ -81,9 +82,11 @@ pub record NextNode (bytes : List ℕ) (place : ℕ) (points all : List PointVal
   pub is : IsNode node
   pub behind : List ℕ
   pub at : drop place bytes ≡ node_bytes node ++ behind
-  pub then : (taken : ℕ) (after : List PointValue) → taken ≡ length (node_bytes node) → after ≡ points ++ node_points node → NodesLeft bytes (place + taken) after all
+  pub then : (taken : ℕ) (after : List PointValue) → taken ≡ length (node_bytes node) → after ≡ points ++ node_points node
+      → NodesLeft bytes (place + taken) after all
 
-pub next_node : (bytes : List ℕ) (place : ℕ) (points all : List PointValue) → NodesLeft bytes place points all → place < length bytes → NextNode bytes place points all
+pub next_node : (bytes : List ℕ) (place : ℕ) (points all : List PointValue) → NodesLeft bytes place points all → place < length bytes
+    → NextNode bytes place points all
 next_node bytes place points all l more = one l.left l.each l.at l.found
   where
     one : (left : List FileNode) → AllByRecursion IsNode left → drop place bytes ≡ flat_map node_bytes left → points ++ flat_map node_points left ≡ all

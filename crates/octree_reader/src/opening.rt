@@ -9,8 +9,8 @@ use crate::head::{HEAD, read_head};
 use crate::nodes::read_points;
 use cube_math::{Cube, Point};
 use octree_file::tree_file;
-use octree_plain::build;
 use octree_model::Tree;
+use octree_plain::build;
 use std::alloc::Global;
 
 /// An octree that was saved: its cube, the leaf limit that it was made with, and the octree itself.
@@ -34,6 +34,7 @@ pub fn open_file(alloc: Global, bytes: &[u8]) -> Result<Saved, FileFault>
         return Err(FileFault::Tree);
     }
     let tree = build(alloc, &points, cube, leaf)?;
+    drop(points);
     let file = tree_file(alloc, &tree, &cube, leaf)?;
     if file.as_slice() == bytes {
         Ok(Saved { cube, leaf, tree })

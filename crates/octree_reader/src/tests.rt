@@ -39,7 +39,12 @@ fn fault_of(alloc: Global, bytes: &[u8]) -> Option<FileFault> {
 }
 
 /// The same for the bytes with another byte at a place.
-fn fault_with(alloc: Global, bytes: &[u8], place: usize, byte: u8) -> Result<Option<FileFault>, Fail> {
+fn fault_with(
+    alloc: Global,
+    bytes: &[u8],
+    place: usize,
+    byte: u8,
+) -> Result<Option<FileFault>, Fail> {
     let mut changed = Vec::from_slice(alloc, bytes)?;
     *changed.get_mut(place).ok_or("no such place")? = byte;
     Ok(fault_of(alloc, &changed))
@@ -54,14 +59,21 @@ fn five(alloc: Global) -> Result<Vec<u8>, Fail> {
 /// The file of an octree that splits once: two points in the first octant, and one in the second.
 fn split(alloc: Global) -> Result<Vec<u8>, Fail> {
     let cube = Cube::new(0, 0, 0, 8).ok_or("no cube")?;
-    file_of(alloc, &cube, 2, &[white(200, 0, 0), white(1, 0, 0), white(0, 0, 0)])
+    file_of(
+        alloc,
+        &cube,
+        2,
+        &[white(200, 0, 0), white(1, 0, 0), white(0, 0, 0)],
+    )
 }
 
 #[test]
 fn five_points_take_107_bytes(rt: HostRuntime) -> Result<(), Fail> {
     let file = five(rt.alloc())?;
     assert_eq!(rt; file.len(), 107);
-    assert!(rt; file.starts_with(b"SLOD\x01\x09\0\0\0\x09\0\0\0\x09\0\0\0\x07\x02\0\0\0\0\x05\0\0\0"));
+    assert!(rt;
+        file.starts_with(b"SLOD\x01\x09\0\0\0\x09\0\0\0\x09\0\0\0\x07\x02\0\0\0\0\x05\0\0\0")
+    );
     assert!(rt; file.ends_with(b"\x09\0\0\0\x09\0\0\0\x09\0\0\0\xff\xff\xff\0"));
     let saved = open_file(rt.alloc(), &file).map_err(|_| "not opened")?;
     assert_eq!(rt; Some(saved.cube), Cube::new(9, 9, 9, 7));
@@ -119,8 +131,14 @@ fn a_split_octree_is_opened(rt: HostRuntime) -> Result<(), Fail> {
 #[test]
 fn files_begin_as_each_does(rt: HostRuntime) -> Result<(), Fail> {
     let file = five(rt.alloc())?;
-    assert_eq!(rt; fault_with(rt.alloc(), &file, 0, 0)?, Some(FileFault::Magic));
-    assert_eq!(rt; fault_with(rt.alloc(), &file, 4, 2)?, Some(FileFault::Magic));
+    assert_eq!(rt;
+        fault_with(rt.alloc(), &file, 0, 0)?,
+        Some(FileFault::Magic)
+    );
+    assert_eq!(rt;
+        fault_with(rt.alloc(), &file, 4, 2)?,
+        Some(FileFault::Magic)
+    );
     assert_eq!(rt; fault_of(rt.alloc(), b""), Some(FileFault::Magic));
     assert_eq!(rt; fault_of(rt.alloc(), b"SLOD"), Some(FileFault::Magic));
     assert_eq!(rt; fault_of(rt.alloc(), b"XLOD\x01"), Some(FileFault::Magic));
@@ -131,12 +149,27 @@ fn files_begin_as_each_does(rt: HostRuntime) -> Result<(), Fail> {
 fn heads_name_a_cube_and_a_limit(rt: HostRuntime) -> Result<(), Fail> {
     let file = five(rt.alloc())?;
     assert_eq!(rt; fault_of(rt.alloc(), b"SLOD\x01"), Some(FileFault::Head));
-    assert_eq!(rt; fault_with(rt.alloc(), &file, 17, 6)?, Some(FileFault::Head));
-    assert_eq!(rt; fault_with(rt.alloc(), &file, 17, 32)?, Some(FileFault::Head));
+    assert_eq!(rt;
+        fault_with(rt.alloc(), &file, 17, 6)?,
+        Some(FileFault::Head)
+    );
+    assert_eq!(rt;
+        fault_with(rt.alloc(), &file, 17, 32)?,
+        Some(FileFault::Head)
+    );
     // From 9 on an axis of 31 bits would pass the end of the space.
-    assert_eq!(rt; fault_with(rt.alloc(), &file, 17, 31)?, Some(FileFault::Head));
-    assert_eq!(rt; fault_with(rt.alloc(), &file, 18, 0)?, Some(FileFault::Head));
-    assert_eq!(rt; fault_with(rt.alloc(), &file, 20, 1)?, Some(FileFault::Head));
+    assert_eq!(rt;
+        fault_with(rt.alloc(), &file, 17, 31)?,
+        Some(FileFault::Head)
+    );
+    assert_eq!(rt;
+        fault_with(rt.alloc(), &file, 18, 0)?,
+        Some(FileFault::Head)
+    );
+    assert_eq!(rt;
+        fault_with(rt.alloc(), &file, 20, 1)?,
+        Some(FileFault::Head)
+    );
     // Five points fit a leaf of any other limit here, since the cube cannot be split.
     assert_eq!(rt; fault_with(rt.alloc(), &file, 19, 195)?, None);
     Ok(())
@@ -158,10 +191,22 @@ fn points_stand_in_order_in_their_cubes(rt: HostRuntime) -> Result<(), Fail> {
     let file = split(rt.alloc())?;
     // The first octant's points lie at 0 and at 1 of the x axis, in this order.
     assert_eq!(rt; fault_with(rt.alloc(), &file, 48, 1)?, None);
-    assert_eq!(rt; fault_with(rt.alloc(), &file, 48, 2)?, Some(FileFault::Tree));
-    assert_eq!(rt; fault_with(rt.alloc(), &file, 64, 128)?, Some(FileFault::Tree));
-    assert_eq!(rt; fault_with(rt.alloc(), &file, 65, 1)?, Some(FileFault::Tree));
-    assert_eq!(rt; fault_with(rt.alloc(), &file, 63, 1)?, Some(FileFault::Tree));
+    assert_eq!(rt;
+        fault_with(rt.alloc(), &file, 48, 2)?,
+        Some(FileFault::Tree)
+    );
+    assert_eq!(rt;
+        fault_with(rt.alloc(), &file, 64, 128)?,
+        Some(FileFault::Tree)
+    );
+    assert_eq!(rt;
+        fault_with(rt.alloc(), &file, 65, 1)?,
+        Some(FileFault::Tree)
+    );
+    assert_eq!(rt;
+        fault_with(rt.alloc(), &file, 63, 1)?,
+        Some(FileFault::Tree)
+    );
     Ok(())
 }
 
@@ -169,13 +214,31 @@ fn points_stand_in_order_in_their_cubes(rt: HostRuntime) -> Result<(), Fail> {
 fn nodes_are_those_of_the_points(rt: HostRuntime) -> Result<(), Fail> {
     let file = split(rt.alloc())?;
     // A node of a third kind, more voxels and more points than there are bytes, another cell and another colour.
-    assert_eq!(rt; fault_with(rt.alloc(), &file, 22, 2)?, Some(FileFault::Tree));
-    assert_eq!(rt; fault_with(rt.alloc(), &file, 26, 255)?, Some(FileFault::Tree));
-    assert_eq!(rt; fault_with(rt.alloc(), &file, 47, 255)?, Some(FileFault::Tree));
-    assert_eq!(rt; fault_with(rt.alloc(), &file, 35, 101)?, Some(FileFault::Tree));
-    assert_eq!(rt; fault_with(rt.alloc(), &file, 39, 0)?, Some(FileFault::Tree));
+    assert_eq!(rt;
+        fault_with(rt.alloc(), &file, 22, 2)?,
+        Some(FileFault::Tree)
+    );
+    assert_eq!(rt;
+        fault_with(rt.alloc(), &file, 26, 255)?,
+        Some(FileFault::Tree)
+    );
+    assert_eq!(rt;
+        fault_with(rt.alloc(), &file, 47, 255)?,
+        Some(FileFault::Tree)
+    );
+    assert_eq!(rt;
+        fault_with(rt.alloc(), &file, 35, 101)?,
+        Some(FileFault::Tree)
+    );
+    assert_eq!(rt;
+        fault_with(rt.alloc(), &file, 39, 0)?,
+        Some(FileFault::Tree)
+    );
     // With a limit of 3 the root is a leaf.
-    assert_eq!(rt; fault_with(rt.alloc(), &file, 18, 3)?, Some(FileFault::Tree));
+    assert_eq!(rt;
+        fault_with(rt.alloc(), &file, 18, 3)?,
+        Some(FileFault::Tree)
+    );
     // A child too few.
     assert_eq!(rt; file.len(), 131);
     assert_eq!(rt; fault_of(rt.alloc(), &file[..126]), Some(FileFault::Tree));

@@ -1,7 +1,7 @@
-use Rattle.std.proofs.Common.{◌*◌, ◌≡◌, ◌++◌, ◌∷◌, [], List, ap, sym, subst, ◌∙◌, arith, rules, refl, ◌+◌}
+use Rattle.std.proofs.Common.{◌*◌, ◌≡◌, ◌++◌, ◌∷◌, [], List, sym, subst, ◌∙◌, rules, refl, ◌+◌}
 use Rattle.cube_math.specs.Points.{PointValue}
 use Rattle.octree_reader.proofs.FieldLaws.{from_place}
-use Rattle.octree_reader.proofs.NodeLaws.{NextPoint, PointsLeft, all_left, next_point, no_point_left}
+use Rattle.octree_reader.proofs.NodeLaws.{PointsLeft, next_point, no_point_left}
 use Rattle.octree_reader.proofs.nodes.push_points.Goals as goal
 
 pub returns-in_default : goal.returns-in_default

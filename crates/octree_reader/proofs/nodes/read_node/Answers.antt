@@ -1,4 +1,4 @@
-use Rattle.std.proofs.Common.{◌≡◌, ◌<◌, ◌/◌, ◌-◌, length, get_or, arith, rules, ◌∙◌, sym, true}
+use Rattle.std.proofs.Common.{◌≡◌, ◌<◌, ◌/◌, ◌-◌, length, get_or, rules, ◌∙◌, true}
 use Rattle.octree_reader.specs.Heads.{u32_at}
 use Rattle.octree_reader.proofs.FieldLaws.{from_place}
 use Rattle.octree_reader.proofs.NodeLaws.{inner_read, leaf_read, no_node}
@@ -30,7 +30,8 @@ returns-then-branch-clause-node c =
     let counted : c.u32_at-count.result ≡ u32_at c.args.bytes.now 1 = search rules in
     λ node rest is e.
     let read = leaf_read c.args.bytes.now c.u32_at-count.result c.args.points.now.items c.push_points.new.points.items c.in_ok-push_points.field-0 node rest
-    c.if-bytes-ne-LEAF.false counted (λ more behind each long at. c.in_ok-push_points.ensures more behind each long (from_place c.args.bytes.now 5 ∙ at)) is e in
+    c.if-bytes-ne-LEAF.false counted
+    (λ more behind each long at. c.in_ok-push_points.ensures more behind each long (from_place c.args.bytes.now 5 ∙ at)) is e in
     (read.1, read.2)
 
 pub returns-else-branch-clause-node : goal.returns-else-branch-clause-node
@@ -38,7 +39,8 @@ returns-else-branch-clause-node c =
     let counted : c.u32_at-count.result ≡ u32_at c.args.bytes.now 1 = search rules in
     λ node rest is e.
     let read = leaf_read c.args.bytes.now c.u32_at-count.result c.args.points.now.items c.push_points.new.points.items c.in_ok-push_points.field-0 node rest
-    c.if-bytes-ne-LEAF.false counted (λ more behind each long at. c.in_ok-push_points.ensures more behind each long (from_place c.args.bytes.now 5 ∙ at)) is e in
+    c.if-bytes-ne-LEAF.false counted
+    (λ more behind each long at. c.in_ok-push_points.ensures more behind each long (from_place c.args.bytes.now 5 ∙ at)) is e in
     let done : c.in_ok-push_points.field-0 ≡ true = read.0 in
     let not_done = c.if-branch.false in
     absurd cc

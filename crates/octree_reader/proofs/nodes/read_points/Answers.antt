@@ -1,6 +1,4 @@
-use Rattle.std.proofs.Common.{◌≡◌, ◌+◌, ◌≤◌, arith, rules, ◌∙◌, sym, length, refl}
-use Rattle.std.proofs.lemmas.List.Elements.{recursion_from_All}
-use Rattle.octree_reader.specs.Nodes.{IsNode}
+use Rattle.std.proofs.Common.{rules, ◌∙◌}
 use Rattle.octree_reader.proofs.FieldLaws.{from_place, none_told, some_told}
 use Rattle.octree_reader.proofs.NodeLaws.{next_node, no_node_left}
 use Rattle.octree_reader.proofs.nodes.read_points.Goals as goal

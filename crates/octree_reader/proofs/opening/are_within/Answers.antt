@@ -1,7 +1,6 @@
-use Rattle.std.proofs.Common.{◌≡◌, ◌+◌, List, take, IsTrue, arith, rules, subst, sym, ◌∙◌, ap}
+use Rattle.std.proofs.Common.{◌≡◌, take, IsTrue, arith, rules, subst}
 use Rattle.std.specs.List.{All}
 use Rattle.std.proofs.lemmas.List.{take_all}
-use Rattle.cube_math.specs.Points.{PointValue}
 use Rattle.cube_math.specs.Cubes.{contains}
 use Rattle.octree_file.specs.Order.{IsPoint}
 use Rattle.octree_reader.proofs.FieldLaws.{one_more}
@@ -11,7 +10,8 @@ pub loop-p-preserved : goal.loop-p-preserved
 loop-p-preserved c =
     let inside : IsTrue (contains c.args.cube.now c.p-item.result) = search rules in
     record {
-      points = one_more IsPoint c.args.points.now c.loop-p.p-index c.p-item.result c.loop-p-test.true c.p-item.is c.loop-p.invariant.points c.is_within.ensures.point;
+      points = one_more IsPoint c.args.points.now c.loop-p.p-index c.p-item.result c.loop-p-test.true c.p-item.is
+          c.loop-p.invariant.points c.is_within.ensures.point;
       within = one_more (λ p. IsTrue (contains c.args.cube.now p)) c.args.points.now c.loop-p.p-index c.p-item.result c.loop-p-test.true c.p-item.is
           c.loop-p.invariant.within inside;
     }

@@ -2,5 +2,7 @@
 #![tactic(auto)]
 
 mod rows;
+#[cfg(test)]
+mod tests;
 
 pub use rows::Rows;

@@ -83,6 +83,14 @@ impl Rows {
         claimed
     }
 
+    /// How many places were claimed in a list.
+    pub fn claims(&self, list: u32) -> u64
+        requires { list < list_count self.now }
+        ensures { result ≡ ((words_in self.now).claim list).value }
+    {
+        self.claims[list as usize] & !SHUT
+    }
+
     /// Shuts a list. Answers how many places were claimed in it.
     pub fn shut(&mut self, list: u32) -> u64
         requires { list < list_count self.old }

@@ -42,4 +42,4 @@ begun_next order out n none births may =
     let parts : (nat_lt n (length order) ≡ true) × (are_back (take (suc n) out) ≡ true) = both (nat_lt n (length order)) (are_back (take (suc n) out)) may in
     let more : n < length order = ltb-true n (length order) parts.0 in
     let here : get_or out n 0 ≡ 0 = eqb-true (get_or out n 0) 0 (sym (next_back out n none (omega (arith, more, births))) ∙ parts.1) in
-    (more, λ b low. elim (cases_lt b n) [ | inl before ↦ none b before | inr behind ↦ (let same : b ≡ n = omega (arith, low, behind) in ap (λ k. get_or out k 0) same ∙ here) ])
+    (more, λ b low. elim (cases_lt b n) [ inl before ↦ none b before | inr behind ↦ (let same : b ≡ n = omega (arith, low, behind) in ap (λ k. get_or out k 0) same ∙ here) ])

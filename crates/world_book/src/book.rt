@@ -12,6 +12,9 @@ use list_machine::Grant;
 use std::alloc::{AllocError, Global};
 use std::marker::Model;
 
+#[cfg(test)]
+mod parts;
+
 /// What the owner keeps of all lists: their rows, the order in which lists were shut, how many of these are cleared, and how many
 /// seats are out, by birth. A seat's birth is how many lists were shut when it was made.
 ///

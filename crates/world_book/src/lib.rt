@@ -3,6 +3,8 @@
 
 mod book;
 mod row;
+#[cfg(test)]
+mod tests;
 
 pub use book::Book;
 pub use row::Row;

@@ -8,6 +8,9 @@ ghost use Rattle.world_book.specs.Owners.{HasMark, HasWord};
 use std::alloc::{AllocError, Global};
 use std::marker::Model;
 
+#[cfg(test)]
+mod parts;
+
 /// How many slots a chunk has.
 const SLOTS: u64 = 256;
 
@@ -162,7 +165,12 @@ impl Row {
         ensures chunk { (p f m : ℕ) → self.old.stage ≡ Swept p f m → result.0 ≡ (next_mark self.old f m).0 }
         ensures slot { (p f m : ℕ) → self.old.stage ≡ Swept p f m → result.1 ≡ (next_mark self.old f m).1 }
     {
-        let Phase::Shut { place, found, marks } = self.phase else {
+        let Phase::Shut {
+            place,
+            found,
+            marks,
+        } = self.phase
+        else {
             unreachable!()
         };
         self.phase = Phase::Shut {
@@ -230,8 +238,5 @@ fn place_of(chain: &[u32], index: u64) -> (u32, u32)
     ensures chunk { result.0 ≡ chunk_at chain.now index }
     ensures slot { result.1 ≡ index % 256 }
 {
-    (
-        chain[(index / SLOTS) as usize],
-        (index % SLOTS) as u32,
-    )
+    (chain[(index / SLOTS) as usize], (index % SLOTS) as u32)
 }

@@ -47,8 +47,8 @@ words-slot r c k n low within i = record {
   slot = λ d j.
       putting_slot (words_in r).slot c k (decode n) d j (λ w. decode (slot_number (set r.slots (256 * c + k) n) d j) ≡ w)
       (λ same_chunk same_slot. ap (λ g. decode (slot_number (set r.slots (256 * c + k) n) g j)) same_chunk
-          ∙ ap (λ h. decode (slot_number (set r.slots (256 * c + k) n) c h)) same_slot
-          ∙ ap decode (slot_number-here r.slots c k n low within))
+      ∙ ap (λ h. decode (slot_number (set r.slots (256 * c + k) n) c h)) same_slot
+      ∙ ap decode (slot_number-here r.slots c k n low within))
       (λ other. ap decode (slot_number-else r.slots c k n d j low other)) i;
 }
 

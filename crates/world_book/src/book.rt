@@ -200,12 +200,13 @@ impl Book {
         self.out[birth] += 1;
     }
 
-    /// Counts a seat of this birth off.
+    /// Counts a seat of this birth off. A birth that is still to come has no seats.
     pub fn count_off(&mut self, birth: usize)
-        requires { birth < length self.old.out }
         ensures { self.new ≡ counted_off self.old birth }
     {
-        self.out[birth] = self.out[birth].saturating_sub(1);
+        if birth < self.out.len() {
+            self.out[birth] = self.out[birth].saturating_sub(1);
+        }
     }
 }
 

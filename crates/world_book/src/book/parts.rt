@@ -40,10 +40,4 @@ impl Book {
     {
         self.has_list(list) && self.row(list).may_clear()
     }
-
-    pub fn has_birth(&self, birth: usize) -> bool
-        ensures { IsTrue result → birth < length self.now.out }
-    {
-        birth < self.out.len()
-    }
 }

@@ -1,5 +1,5 @@
 -- The owner's view as a book keeps it, which knows no facts about words.
-use Rattle.std.specs.Prelude.{◌≡◌, ℕ, ◌+◌, ◌-◌, ◌*◌, ◌/◌, ◌<◌, ◌≤◌, ◌^◌, [], ◌++◌, length, slice_index, slice_index_or, slice_set}
+use Rattle.std.specs.Prelude.{◌≡◌, ℕ, zero, suc, List, Option, None, Some, ◌+◌, ◌-◌, ◌*◌, ◌/◌, ◌<◌, ◌≤◌, ◌^◌, [], ◌++◌, length, slice_index, slice_index_or, slice_set}
 use Rattle.list_machine.specs.State.{zero_words}
 use Rattle.list_machine.specs.Machine.{State, state}
 use Rattle.list_machine.specs.Moves.{chunk_count}
@@ -42,3 +42,8 @@ pub record HasWord (a : Leaf) : Type 0 where
 -- a seat of a birth was taken back
 abbrev pub counted_off : Owner → ℕ → Owner
 counted_off o birth = record o { out = slice_set o.out birth (slice_index o.out birth - 1) }
+
+-- the last of the first chunks of a chain, so many
+abbrev pub last_chunk : List ℕ → ℕ → Option ℕ
+last_chunk chain zero = None
+last_chunk chain (suc r) = Some (slice_index chain r)

@@ -3,7 +3,7 @@ ghost use Rattle.list_machine.specs.Facts.{is_shut};
 ghost use Rattle.list_machine.specs.Moves.{chunk_at, chunk_count, is_clearing_at, next_mark};
 ghost use Rattle.list_machine.specs.Steps.{opening_leaf, with_claimed, with_grant, with_one_used, with_owned, with_stage, without_chains};
 ghost use Rattle.list_machine.specs.declared.views.Stage.TheVariants.{Swept, Cleared};
-ghost use Rattle.world_book.specs.Owners.{HasMark, HasWord};
+ghost use Rattle.world_book.specs.Owners.{HasMark, HasWord, last_chunk};
 
 use std::alloc::{AllocError, Global};
 use std::marker::Model;
@@ -65,6 +65,14 @@ impl Row {
         ensures { result.now ≡ self.now.claimed }
     {
         &self.claimed
+    }
+
+    /// The last chunk of the claimed chain.
+    pub fn last_claimed(&self) -> Option<u32>
+        ensures { result ≡ last_chunk self.now.claimed (length self.now.claimed) }
+    {
+        let last = self.claimed.len().checked_sub(1)?;
+        Some(self.claimed[last])
     }
 
     pub fn owned(&self) -> &[u32]

@@ -52,7 +52,9 @@ fn a_shut_list_is_swept_and_then_cleared_word_by_word(rt: HostRuntime) -> Result
     book.adopt(0, 3)?;
     assert!(rt; book.may_use_slot(0));
     book.use_slot(0);
-    assert!(rt; book.has_list(0));
+    assert!(rt; book.has_list(1) && book.has_list(0));
+    assert_eq!(rt; book.row(0).last_claimed(), Some(7));
+    assert_eq!(rt; book.row(1).last_claimed(), None);
     book.shut(0, 2)?;
     assert_eq!(rt; book.birth(), 1);
     for at in [(7u32, 0u32), (7, 1), (3, 0)] {

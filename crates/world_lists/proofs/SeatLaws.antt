@@ -8,6 +8,15 @@ use Rattle.list_machine.specs.declared.views.Unfiled.{Unfiled}
 use Rattle.list_machine.specs.declared.views.Unfiled.TheVariants.{Nothing, Place}
 use Rattle.list_machine.specs.declared.words.Claimed.{Claimed}
 use Rattle.list_machine.specs.declared.words.Claimed.TheVariants.{Index, Shut}
+use Rattle.std.proofs.Common.{◌∷◌}
+use Rattle.list_machine.specs.Words.{holding}
+use Rattle.list_machine.specs.State.{put_slot}
+use Rattle.list_machine.specs.Machine.{State}
+use Rattle.list_machine.specs.Moves.{filed_if, guest_in}
+use Rattle.list_machine.specs.Steps.{guest_with}
+use Rattle.list_machine.specs.declared.views.Fact.TheVariants.{Item, Empty}
+use Rattle.world_words.specs.WordRows.{words_in}
+use Rattle.world_lists.specs.Lists.{ListsValue, Shows}
 use Rattle.world_lists.specs.Seats.{bare, place_given, with_claim}
 
 -- a seat is the guest of its number
@@ -25,3 +34,17 @@ given_is b l n r is = ap (place_given l) is ∙ cases b
     cases : (b : Bool) → place_given l (cond b Shut (Index n)) ≡ cond b Nothing (Place l n)
     cases true = refl
     cases false = refl
+
+-- the lists after a filing, by whether the slot was blank
+pub filing_shown : (b : Bool) (v u : ListsValue) (s : State) (j l c k x : ℕ) (y : Guest) → Shows v s → words_in u.words ≡ cond b (put_slot s.words c k (holding x)) s.words → u.owner ≡ v.owner → u.seats ≡ set v.seats j y
+    → y ≡ with_claim (bare (guest_in s j)) Nothing → Shows u (filed_if b s j l c k x)
+filing_shown true v u s j l c k x y h words owner seats is = record {
+  words = words;
+  owner = owner ∙ h.owner;
+  guests = seats ∙ seats-set v.seats s.guests j y (guest_with (guest_in s j) Nothing (Item l c k x ∷ (guest_in s j).facts)) h.guests is;
+}
+filing_shown false v u s j l c k x y h words owner seats is = record {
+  words = words;
+  owner = owner ∙ h.owner;
+  guests = seats ∙ seats-set v.seats s.guests j y (guest_with (guest_in s j) Nothing (Empty l c k ∷ (guest_in s j).facts)) h.guests is;
+}

@@ -1,7 +1,7 @@
 -- The lists of a world as they stand in memory.
-use Rattle.std.specs.Prelude.{◌≡◌, ℕ, List, map, slice_index_or}
+use Rattle.std.specs.Prelude.{◌≡◌, ℕ, List, map, Option}
+use Rattle.list_machine.specs.Words.{item_in}
 use Rattle.list_machine.specs.Machine.{State}
-use Rattle.list_machine.specs.Steps.{nobody}
 use Rattle.list_machine.specs.declared.views.Guest.{Guest}
 use Rattle.list_machine.specs.declared.views.Owner.{Owner}
 use Rattle.world_words.specs.WordRows.{WordRows, words_in}
@@ -23,3 +23,7 @@ pub record Shows (v : ListsValue) (s : State) : Type 0 where
 -- the lists make this move: in whatever state they stood, they stand behind it in the one that it makes of that
 abbrev pub Make : ListsValue → ListsValue → (State → State) → Type 0
 Make old new move = (s : State) → Shows old s → Shows new (move s)
+
+-- the item in a slot, which is told by its chunk and its number there
+abbrev pub item_at : ListsValue → ℕ × ℕ → Option ℕ
+item_at v at = item_in ((words_in v.words).slot at.0 at.1)

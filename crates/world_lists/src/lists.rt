@@ -2,14 +2,15 @@ ghost use Rattle.std.specs.Prelude.{◌≡◌, All, ℕ, ◌+◌, ◌-◌, ◌*�
 ghost use Rattle.list_machine.specs.Words.{item_in};
 ghost use Rattle.list_machine.specs.State.{link_at, zero_words};
 ghost use Rattle.list_machine.specs.Machine.{State, state};
-ghost use Rattle.list_machine.specs.Moves.{chunk_adopted, is_blank, item_filed, item_placed, list_shut, place_claimed, seat_joined, seat_made, slot_marked};
+ghost use Rattle.list_machine.specs.Moves.{chunk_adopted, chunk_linked, is_blank, item_filed, item_placed, list_shut, next_mark, place_claimed, seat_joined, seat_made, slot_marked};
 ghost use Rattle.list_machine.specs.Steps.{leaves_after_grants, opening};
 ghost use Rattle.list_machine.specs.declared.views.Grant.{Grant};
 ghost use Rattle.list_machine.specs.declared.views.Leaf.{Leaf};
+ghost use Rattle.list_machine.specs.declared.views.Stage.TheVariants.{Swept};
 ghost use Rattle.list_machine.specs.declared.words.Claimed.TheVariants.{Index, Shut};
 ghost use Rattle.world_words.specs.WordRows.{HasLink, link_behind, made_count, words_in};
 ghost use Rattle.world_book.specs.Owners.{HasMark, leaf_at};
-ghost use Rattle.world_lists.specs.Lists.{Make, Shows};
+ghost use Rattle.world_lists.specs.Lists.{Make, Shows, item_at};
 
 use crate::seat::Seat;
 use list_machine::{Claimed, Grant};
@@ -139,6 +140,25 @@ impl Lists {
         Ok(())
     }
 
+    /// A chunk is linked behind the claimed chain of a list. Its words are made where it is the first that has none. Where memory is
+    /// wanting the lists stay as they stood.
+    pub fn link(&mut self, list: u32, chunk: u32) -> Result<(), AllocError>
+        requires list { list < length self.old.owner.book.leaves }
+        requires next { chunk ≤ made_count self.old.words }
+        requires small { chunk < 2 ^ 32 - 1 }
+        requires few { length (leaf_at self.old.owner list).claimed < 2 ^ 32 }
+        ensures ok { OnOk result (Make self.old self.new (λ s. chunk_linked s list chunk)) }
+        ensures err { OnErr result (Make self.old self.new (λ s. s)) }
+    {
+        self.make(chunk)?;
+        let row = self.book.row(list);
+        let rank = row.claimed().len() as u32;
+        let last = row.last_claimed();
+        self.book.link(list, chunk)?;
+        self.words.link_to(list, last, rank, chunk);
+        Ok(())
+    }
+
     /// Makes the words of a chunk that is the first without.
     fn make(&mut self, chunk: u32) -> Result<(), AllocError>
         requires { chunk ≤ made_count self.old.words }
@@ -168,7 +188,8 @@ impl Lists {
     pub fn mark(&mut self, list: u32) -> Option<u32>
         requires list { list < length self.old.owner.book.leaves }
         requires mark { HasMark (leaf_at self.old.owner list) }
-        ensures { Make self.old self.new (λ s. slot_marked s list) }
+        ensures lists { Make self.old self.new (λ s. slot_marked s list) }
+        ensures item { (p f m : ℕ) → (leaf_at self.old.owner list).stage ≡ Swept p f m → result ≡ item_at self.old (next_mark (leaf_at self.old.owner list) f m) }
     {
         let (chunk, slot) = self.book.mark_next(list);
         self.words.mark(chunk, slot)

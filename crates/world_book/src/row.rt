@@ -1,4 +1,4 @@
-ghost use Rattle.std.specs.Prelude.{◌≡◌, ℕ, suc, ◌+◌, ◌-◌, ◌*◌, ◌/◌, ◌%◌, ◌^◌, ◌<◌, ◌≤◌, ◌++◌, IsTrue, Some, length, slice_get, slice_index, OnOk, OnErr};
+ghost use Rattle.std.specs.Prelude.{◌≡◌, ℕ, suc, ◌+◌, ◌-◌, ◌*◌, ◌/◌, ◌%◌, ◌^◌, ◌<◌, ◌≤◌, ◌++◌, IsTrue, ◌↔◌, Some, length, slice_get, slice_index, OnOk, OnErr};
 ghost use Rattle.list_machine.specs.Facts.{is_shut};
 ghost use Rattle.list_machine.specs.Moves.{chunk_at, chunk_count, is_clearing_at, next_mark};
 ghost use Rattle.list_machine.specs.Steps.{opening_leaf, with_claimed, with_grant, with_one_used, with_owned, with_stage, without_chains};
@@ -113,6 +113,31 @@ impl Row {
         ensures { result ≡ is_clearing_at self.now.stage (chunk_count self.now) }
     {
         matches!(self.phase, Phase::Clearing { .. }) && self.chunks() > 0
+    }
+
+    /// Whether the list was shut and swept so far that the slot which is marked next has its chunk.
+    pub fn has_mark(&self) -> bool
+        ensures { IsTrue result ↔ HasMark self.now }
+    {
+        let Phase::Shut { found, marks, .. } = self.phase else {
+            return false;
+        };
+        let has_chunk = if marks < found {
+            marks / SLOTS < self.claimed.len() as u64
+        } else {
+            (marks - found) / SLOTS < self.owned.len() as u64
+        };
+        has_chunk && marks < 1 << 63
+    }
+
+    /// Whether the clearing has begun, and words of chunks are left to be cleared.
+    pub fn has_word(&self) -> bool
+        ensures { IsTrue result ↔ HasWord self.now }
+    {
+        let Phase::Clearing { words, .. } = self.phase else {
+            return false;
+        };
+        words > 0 && (words - 1) / WORDS < self.chunks()
     }
 
     /// Puts a chunk at the end of the claimed chain.

@@ -3,6 +3,8 @@
 
 mod lists;
 mod seat;
+#[cfg(test)]
+mod tests;
 
 pub use lists::Lists;
 pub use seat::{Seat, Unfiled};

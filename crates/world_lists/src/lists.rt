@@ -1,23 +1,27 @@
-ghost use Rattle.std.specs.Prelude.{◌≡◌, All, ℕ, ◌+◌, ◌-◌, ◌*◌, ◌^◌, ◌<◌, ◌≤◌, length, IfOk, OnOk, OnErr, if◌then◌else◌, []};
+ghost use Rattle.std.specs.Prelude.{◌≡◌, All, ℕ, ◌+◌, ◌-◌, ◌*◌, ◌^◌, ◌<◌, ◌≤◌, length, slice_index_or, IfOk, OnOk, OnErr, if◌then◌else◌, []};
 ghost use Rattle.list_machine.specs.Words.{item_in};
 ghost use Rattle.list_machine.specs.State.{link_at, zero_words};
 ghost use Rattle.list_machine.specs.Machine.{State, state};
 ghost use Rattle.list_machine.specs.Moves.{chunk_adopted, chunk_linked, is_blank, item_filed, item_placed, list_shut, next_mark, place_claimed, seat_joined, seat_made, slot_marked};
-ghost use Rattle.list_machine.specs.Steps.{leaves_after_grants, opening};
+ghost use Rattle.list_machine.specs.Steps.{leaves_after_grants, nobody, opening};
 ghost use Rattle.list_machine.specs.declared.views.Grant.{Grant};
 ghost use Rattle.list_machine.specs.declared.views.Leaf.{Leaf};
 ghost use Rattle.list_machine.specs.declared.views.Stage.TheVariants.{Swept};
 ghost use Rattle.list_machine.specs.declared.words.Claimed.TheVariants.{Index, Shut};
 ghost use Rattle.world_words.specs.WordRows.{HasLink, link_behind, made_count, words_in};
 ghost use Rattle.world_book.specs.Owners.{HasMark, leaf_at};
+ghost use Rattle.world_lists.specs.Seats.{claim_of};
 ghost use Rattle.world_lists.specs.Lists.{Make, Shows, item_at};
 
-use crate::seat::Seat;
+use crate::seat::{Seat, Unfiled};
 use list_machine::{Claimed, Grant};
 use std::alloc::{AllocError, Global};
 use std::marker::Model;
 use world_book::{Book, Row};
 use world_words::Rows;
+
+#[cfg(test)]
+mod parts;
 
 /// All lists of a world.
 ///
@@ -82,6 +86,15 @@ impl Lists {
         let guest = &mut self.seats[seat];
         guest.settle();
         filed
+    }
+
+    /// The place that a seat has claimed and not filed into.
+    pub fn unfiled(&self, seat: usize) -> Option<Unfiled>
+        requires { seat < length self.now.seats }
+        ensures { claim_of result ≡ (slice_index_or self.now.seats seat nobody).claim }
+    {
+        let guest = &self.seats[seat];
+        guest.claim()
     }
 
     /// The link of a list, or the one behind a chunk of its claimed chain.

@@ -51,6 +51,13 @@ impl Rows {
         })
     }
 
+    /// For how many lists there are words.
+    pub fn lists(&self) -> usize
+        ensures { result ≡ list_count self.now }
+    {
+        self.claims.len()
+    }
+
     /// How many chunks were made: those with the numbers below.
     pub fn made(&self) -> usize
         ensures { result ≡ made_count self.now }

@@ -5,6 +5,7 @@ use std::test::Fail;
 #[test]
 fn claims_count_on_until_the_list_is_shut(rt: HostRuntime) -> Result<(), Fail> {
     let mut rows = Rows::new(rt.alloc(), 3)?;
+    assert_eq!(rt; rows.lists(), 3);
     assert_eq!(rt; rows.claims(1), 0);
     let first = rows.claim(1);
     assert_eq!(rt; first, Claimed::Index(0));

@@ -32,12 +32,12 @@ impl Book {
     pub fn may_mark(&self, list: u32) -> bool
         ensures { IsTrue result → (list < length self.now.book.leaves) × HasMark (leaf_at self.now list) }
     {
-        self.has_list(list) && self.row(list).may_mark()
+        self.has_list(list) && self.row(list).has_mark()
     }
 
     pub fn may_clear(&self, list: u32) -> bool
         ensures { IsTrue result → (list < length self.now.book.leaves) × HasWord (leaf_at self.now list) }
     {
-        self.has_list(list) && self.row(list).may_clear()
+        self.has_list(list) && self.row(list).has_word()
     }
 }

@@ -1,0 +1,3 @@
+pub mod BookKept
+pub mod ListRows
+pub mod Owners

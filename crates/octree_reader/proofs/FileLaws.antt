@@ -9,6 +9,7 @@ use Rattle.std.proofs.lemmas.List.Sums.{sum_by-append}
 use Rattle.cube_math.specs.Points.{PointValue}
 use Rattle.cube_math.specs.Cubes.{CubeValue, contains, child}
 use Rattle.octree_model.specs.Bags.{IsSameBag, joined, leaf_points}
+use Rattle.octree_model.specs.Facts.{FactsAt, facts}
 use Rattle.octree_model.specs.Numbers.{up_to}
 use Rattle.octree_model.specs.Octree.{inside, octree, octree_at}
 use Rattle.octree_model.specs.Voxels.{voxels}
@@ -16,7 +17,7 @@ use Rattle.octree_model.specs.declared.tree.Tree.{Tree}
 use Rattle.octree_model.specs.declared.tree.Tree.TheVariants.{Leaf, Inner}
 use Rattle.octree_model.proofs.BagLaws.{leaf_points-Leaf, leaf_points-Inner, same_points}
 use Rattle.octree_model.proofs.OctreeLaws.{octree_at-inside}
-use Rattle.octree_model.proofs.SameBagLaws.{same_length}
+use Rattle.octree_model.proofs.SameBagLaws.{same_facts, same_length}
 use Rattle.octree_model.proofs.ShapeLaws.{few_inside}
 use Rattle.octree_file.specs.Files.{ArePoints, IsFileOf, tree_file, head_bytes}
 use Rattle.octree_file.specs.Order.{IsPoint, in_order}
@@ -162,6 +163,7 @@ pub record IsFound (leaf : ℕ) (c : CubeValue) (ps found : List PointValue) : T
   pub are : ArePoints found
   pub within : All (λ p. IsTrue (contains c p)) found
   pub file : tree_file leaf c (octree leaf c found) ≡ tree_file leaf c (octree leaf c ps)
+  pub one : facts (octree leaf c found) ≡ facts (octree leaf c ps)
 
 pub is_found : (leaf : ℕ) (c : CubeValue) (ps found : List PointValue) → ArePoints ps → found ≡ flat_map node_points (nodes_at leaf (c.bits - 7) c ps)
     → IsFound leaf c ps found
@@ -179,6 +181,7 @@ is_found leaf c ps found are is =
       within = All-from_recursion (λ p. IsTrue (contains c p)) found (each_passes (contains c) found none);
       file = ap (λ (l : List ℕ). head_bytes leaf c ++ l)
           (same_spelling leaf depth c found q points (points_inside c ps are.each) same ∙ ap spelling (octree_at-inside leaf depth c ps));
+      one = ap (λ (f : FactsAt). f []) (same_facts leaf depth c found q same) ∙ ap facts (octree_at-inside leaf depth c ps);
     }
 
 -- ---- a file
@@ -218,3 +221,13 @@ nodes_named bytes c leaf ec el f =
     let cube : f.cube ≡ c = sym (ec ∙ cube_named bytes f.cube f.leaf f.points f.is) in
     let limit : f.leaf ≡ leaf = sym (el ∙ leaf_named bytes f.cube f.leaf f.points f.is) in
     subst (λ (k : CubeValue). HasNodes bytes k leaf) cube (subst (λ (n : ℕ). HasNodes bytes f.cube n) limit (has_nodes bytes f.cube f.leaf f.points f.is))
+
+-- where so much was opened, every list of points with this file has the octree that was opened, but for the order in leaves
+pub one_octree : (bytes : List ℕ) (c : CubeValue) (leaf : ℕ) (found ps : List PointValue) → IsFileOf bytes c leaf ps
+    → ((nodes : List FileNode) → All IsNode nodes → drop 22 bytes ≡ flat_map node_bytes nodes → found ≡ flat_map node_points nodes)
+    → facts (octree leaf c found) ≡ facts (octree leaf c ps)
+one_octree bytes c leaf found ps file read =
+    let depth : ℕ = c.bits - 7 in
+    let nodes : List FileNode = nodes_at leaf depth c ps in
+    let each : All IsNode nodes = All-from_recursion IsNode nodes (are_nodes leaf depth c ps file.points.each file.points.few) in
+    (is_found leaf c ps found file.points (read nodes each (ap (drop 22) file.is ∙ spelled leaf depth c ps))).one

@@ -1,6 +1,9 @@
-ghost use Rattle.std.specs.Prelude.{◌≡◌, ◌<◌, ◌^◌, All, IsTrue, IfOk, IfErr, length};
+ghost use Rattle.std.specs.Prelude.{◌≡◌, ◌<◌, ◌^◌, List, All, IsTrue, IfOk, IfErr, length};
 ghost use Rattle.cube_math.specs.Cubes.{contains};
-ghost use Rattle.octree_file.specs.Files.{ArePoints};
+ghost use Rattle.cube_math.specs.Points.{PointValue};
+ghost use Rattle.octree_model.specs.Facts.{facts};
+ghost use Rattle.octree_model.specs.Octree.{octree};
+ghost use Rattle.octree_file.specs.Files.{ArePoints, IsFileOf};
 ghost use Rattle.octree_file.specs.Order.{IsPoint};
 ghost use Rattle.octree_reader.specs.Opening.{IsFaultOf, IsOpened};
 
@@ -21,9 +24,12 @@ pub struct Saved {
     pub tree: Tree,
 }
 
-/// The octree whose file the bytes are. It is the octree of the points that stand in the file, in that order.
+/// The octree whose file the bytes are. It is the octree of the points that stand in the file, in
+/// that order, and of whatever points the file was made of it is the octree but for the order of points in leaves.
 pub fn open_file(alloc: Global, bytes: &[u8]) -> Result<Saved, FileFault>
     ensures opened { IfOk result (λ saved. IsOpened bytes.now saved.cube saved.leaf saved.tree) }
+    ensures one { IfOk result (λ saved. (points : List PointValue) → IsFileOf bytes.now saved.cube saved.leaf points
+        → facts saved.tree ≡ facts (octree saved.leaf saved.cube points)) }
     ensures fault { IfErr result (λ fault. IsFaultOf bytes.now fault) }
 {
     let (cube, leaf) = read_head(bytes)?;

@@ -38,6 +38,11 @@ fn fault_of(alloc: Global, bytes: &[u8]) -> Option<FileFault> {
     open_file(alloc, bytes).err()
 }
 
+/// The same for the first bytes alone.
+fn fault_of_first(alloc: Global, bytes: &[u8], len: usize) -> Result<Option<FileFault>, Fail> {
+    Ok(fault_of(alloc, bytes.get(..len).ok_or("too short")?))
+}
+
 /// The same for the bytes with another byte at a place.
 fn fault_with(
     alloc: Global,
@@ -179,8 +184,14 @@ fn heads_name_a_cube_and_a_limit(rt: HostRuntime) -> Result<(), Fail> {
 fn no_byte_is_left_out_or_over(rt: HostRuntime) -> Result<(), Fail> {
     let mut file = five(rt.alloc())?;
     assert_eq!(rt; file.len(), 107);
-    assert_eq!(rt; fault_of(rt.alloc(), &file[..106]), Some(FileFault::Tree));
-    assert_eq!(rt; fault_of(rt.alloc(), &file[..22]), Some(FileFault::Tree));
+    assert_eq!(rt;
+        fault_of_first(rt.alloc(), &file, 106)?,
+        Some(FileFault::Tree)
+    );
+    assert_eq!(rt;
+        fault_of_first(rt.alloc(), &file, 22)?,
+        Some(FileFault::Tree)
+    );
     file.push(0)?;
     assert_eq!(rt; fault_of(rt.alloc(), &file), Some(FileFault::Tree));
     Ok(())
@@ -241,6 +252,9 @@ fn nodes_are_those_of_the_points(rt: HostRuntime) -> Result<(), Fail> {
     );
     // A child too few.
     assert_eq!(rt; file.len(), 131);
-    assert_eq!(rt; fault_of(rt.alloc(), &file[..126]), Some(FileFault::Tree));
+    assert_eq!(rt;
+        fault_of_first(rt.alloc(), &file, 126)?,
+        Some(FileFault::Tree)
+    );
     Ok(())
 }

@@ -2,11 +2,12 @@ use Rattle.std.proofs.Common.{◌≡◌, ℕ, true, false, List, flat_map, arith
 use Rattle.std.proofs.lemmas.Bool.Decides.{Decides-eqb}
 use Rattle.std.proofs.lemmas.Slice.Eq.{slice_eq-Decides}
 use Rattle.cube_math.specs.Points.{PointValue}
+use Rattle.octree_model.specs.Facts.{facts}
 use Rattle.octree_model.specs.Octree.{octree}
 use Rattle.octree_file.specs.Files.{ArePoints, IsFileOf, tree_file}
 use Rattle.octree_reader.specs.Nodes.{node_points}
 use Rattle.octree_reader.proofs.FieldLaws.{from_place, none_told, some_told}
-use Rattle.octree_reader.proofs.FileLaws.{HasNodes, nodes_named}
+use Rattle.octree_reader.proofs.FileLaws.{nodes_named, one_octree}
 use Rattle.octree_reader.proofs.opening.open_file.Goals as goal
 
 pub returns-in_default-clause-fault : goal.returns-in_default-clause-fault
@@ -60,3 +61,10 @@ returns-then-eq-clause-opened c =
       file = subst (λ (bytes : List ℕ). IsFileOf bytes c.in_ok-cube.cube c.in_ok-cube.leaf c.in-Some.points.items) (sym c.as_slice.ensures.value ∙ same) file;
       is = tree;
     }
+
+pub returns-then-eq-clause-one : goal.returns-then-eq-clause-one
+returns-then-eq-clause-one c =
+    let tree : c.in_ok-tree.tree ≡ octree c.in_ok-cube.leaf c.in_ok-cube.cube c.in-Some.points.items = search rules in
+    λ ps file. ap facts tree ∙ one_octree c.args.bytes.now c.in_ok-cube.cube c.in_ok-cube.leaf c.in-Some.points.items ps file
+    (λ nodes each at. some_told c.in_ok-points.field-0 c.in-Some.points _ c.in-Some.is
+    (c.in_ok-points.ensures nodes each (from_place c.args.bytes.now 22 ∙ at)))

@@ -1,4 +1,4 @@
-//! Worked moves over lists over vectors. What they expect was worked out by hand.
+//! Worked moves over lists over vectors. What is expected was worked out by hand.
 ghost use Rattle.std.specs.Prelude.{◌≡◌, [], ◌∷◌, length, IfOk};
 ghost use Rattle.list_words.specs.Plain.{fresh_plain, store_of};
 ghost use Rattle.list_words.specs.Store.{no_row, opened, roomier};

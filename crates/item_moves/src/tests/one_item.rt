@@ -1,9 +1,5 @@
-//! One item that moves from the list of a leaf to that of a leaf below it.
-ghost use Rattle.std.specs.Prelude.{◌≡◌, ◌&&◌, nat_lt};
-
-use crate::{Aims, NO_HOME, bring_home, open_leaf, place_once};
-use list_words::{LeafLists, PlainLists};
-use std::test::Fail;
+//! Aims of one item.
+use crate::Aims;
 
 /// The item 0 was admitted before the lists 0 and 1 were opened. The leaf of the first is split, and the second is its new
 /// leaf's.

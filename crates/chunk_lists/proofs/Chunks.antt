@@ -1,9 +1,10 @@
 -- Chunks of chains, and free ones.
-use Rattle.std.proofs.Common.{◌≡◌, ℕ, suc, ◌+◌, ◌-◌, ◌<◌, ◌≤◌, sum_by, List, [], ◌∷◌, length, sym, refl, ap, ◌∙◌, subst, arith, Contains}
+use Rattle.std.proofs.Common.{◌≡◌, ℕ, suc, ◌+◌, ◌-◌, ◌<◌, ◌≤◌, sum_by, List, [], ◌∷◌, inl, inr, length, sym, refl, ap, ◌∙◌, subst, arith, Contains}
 use Rattle.std.specs.Prelude.{Option, Some, None, slice_get}
 use Rattle.std.proofs.lemmas.Option.{none-some, get_or_from_slice_get}
 use mathlib.Core.Logic.{dite}
 use native.Mathlib.Decide.{dec_le}
+use Rattle.std.proofs.lemmas.Bool.{cases_lt}
 use Rattle.std.proofs.lemmas.List.{get_or_past}
 use Rattle.std.proofs.lemmas.List.Sums.{get_or-le-sum_by}
 use Rattle.std.proofs.lemmas.List.Elements.{Contains-append_left, Contains-append_right}
@@ -11,7 +12,7 @@ use Rattle.list_machine.specs.Facts.{IsAt, Chain, claimed_chain, owned_chain, ch
 use Rattle.list_machine.specs.Rule.{IsFree}
 use Rattle.list_machine.specs.declared.views.Leaf.{Leaf}
 use Rattle.list_machine.proofs.Lists.{at_same, at_below}
-use Rattle.list_words.specs.Store.{Row, chunks_of, IsInNoChain}
+use Rattle.list_words.specs.Store.{Row, chunks_of, IsNextChunk}
 use Rattle.list_book.specs.Books.{BookRow, BookValue, book_row, row_chunks, row_count, fresh_row, IsInNoRow}
 use Rattle.list_table.specs.Ledgers.{leaf_of}
 use Rattle.list_table.specs.OwnerMoves.{last_link}
@@ -40,8 +41,16 @@ module _ (lists chunks : ℕ) (g : Ledger) (b : BookValue) (t : AreTied lists ch
       let one = t.each l below in
       none l (in_row (book_row b l) (leaf_of g l) c one.claimed one.owned (subst (λ (e : Leaf). HasChunk e c) (sym is) has))
 
-  pub in_no_chain : (name : List ℕ) (c : ℕ) → IsInNoRow b c → IsInNoChain (store_of (record { name = name; ledger = g; book = b })) c
-  in_no_chain name c none l has = none l (subst (λ (r : Row). Contains (chunks_of r) c) (row_is lists chunks g b t l) has)
+  -- the least chunk that is in no row is the next for a chain
+  pub next_chunk : (name : List ℕ) (c : ℕ) → c < b.chunks → IsInNoRow b c → ((d : ℕ) → d < b.chunks → IsInNoRow b d → c ≤ d) → IsNextChunk (store_of (record { name = name; ledger = g; book = b })) c
+  next_chunk name c low none least = record {
+    below = low;
+    unused = λ l has. none l (subst (λ (r : Row). Contains (chunks_of r) c) (row_is lists chunks g b t l) has);
+    least = λ d away. elim (cases_lt d b.chunks) [
+      | inl small ↦ least d small (λ l has. away l (subst (λ (r : Row). Contains (chunks_of r) d) (sym (row_is lists chunks g b t l)) has))
+      | inr past ↦ omega (arith, low, past)
+    ];
+  }
 
 -- the link word behind a chain
 last_at : (x : ℕ) (xs : List ℕ) (last : Option ℕ) → last ≡ slice_get (x ∷ xs) (length xs) → LeadsTo (x ∷ xs) (last_link last) (suc (length xs))

@@ -4,7 +4,7 @@ ghost use Rattle.list_machine.specs.Steps.{newcomer};
 ghost use Rattle.list_machine.specs.declared.views.Fact.{Fact};
 ghost use Rattle.list_machine.specs.declared.views.Fact.TheVariants.{Item, Link, Closed, Empty};
 ghost use Rattle.list_machine.specs.declared.views.LinkWord.{LinkWord};
-ghost use Rattle.list_words.specs.Store.{AreMarks, IsCleared, IsFoundAt, IsInNoChain, IsOpen, IsReclaimed, IsShut, MayAdmit, StandOnce, admitted, chunks_of, found_in, held_of, lengthened, linked, one_less, one_more, opened, placed_in, roomier, row, seats_out, shut_now, with_chunk, with_row, cleared_store};
+ghost use Rattle.list_words.specs.Store.{AreMarks, IsCleared, IsFoundAt, IsNextChunk, IsOpen, IsReclaimed, IsShut, MayAdmit, StandOnce, admitted, chunks_of, found_in, held_of, lengthened, linked, one_less, one_more, opened, placed_in, roomier, row, seats_out, shut_now, with_chunk, with_row, cleared_store};
 ghost use Rattle.list_words.specs.declared.leaf_lists.Phase.TheVariants.{Fresh};
 ghost use Rattle.list_book.specs.Books.{MayClearNext, fresh_book, next_in_order};
 ghost use Rattle.list_table.specs.Ledgers.{Knows, opening_ledger};
@@ -138,12 +138,12 @@ impl Keeper {
         self.book.open_list(list);
     }
 
-    /// Links a free chunk at the end of the list's claimed chain.
+    /// Links the least free chunk at the end of the list's claimed chain.
     pub fn extend_claimed(&mut self, list: u32)
         requires takes { IsOpen (store_of self.old) list }
         requires room { 0 < (row (store_of self.old) list).claimed_room }
         requires free { 0 < (store_of self.old).free }
-        ensures store { (c : ℕ) × (c < (store_of self.old).chunks) × IsInNoChain (store_of self.old) c × (store_of self.new ≡ with_chunk (store_of self.old) list (linked (row (store_of self.old) list) c)) }
+        ensures store { (c : ℕ) × IsNextChunk (store_of self.old) c × (store_of self.new ≡ with_chunk (store_of self.old) list (linked (row (store_of self.old) list) c)) }
         ensures known { KeepsFacts self.old self.new }
     {
         numbers_are_small(&self.book);
@@ -154,12 +154,12 @@ impl Keeper {
         self.lists.link(&mut self.seat, list, behind, rank, chunk);
     }
 
-    /// Puts a free chunk at the end of the list's owned chain.
+    /// Puts the least free chunk at the end of the list's owned chain.
     pub fn extend_owned(&mut self, list: u32)
         requires takes { IsOpen (store_of self.old) list }
         requires room { 0 < (row (store_of self.old) list).owned_room }
         requires free { 0 < (store_of self.old).free }
-        ensures store { (c : ℕ) × (c < (store_of self.old).chunks) × IsInNoChain (store_of self.old) c × (store_of self.new ≡ with_chunk (store_of self.old) list (lengthened (row (store_of self.old) list) c)) }
+        ensures store { (c : ℕ) × IsNextChunk (store_of self.old) c × (store_of self.new ≡ with_chunk (store_of self.old) list (lengthened (row (store_of self.old) list) c)) }
         ensures known { KeepsFacts self.old self.new }
     {
         let chunk = self.book.extend_owned(list);

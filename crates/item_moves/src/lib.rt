@@ -11,6 +11,8 @@ mod opening;
 mod placing;
 mod reclaiming;
 mod sweeping;
+#[cfg(test)]
+mod tests;
 
 pub use aims::Aims;
 pub use coming_back::{are_fair, bring_home, place_answer, place_late};

@@ -37,11 +37,10 @@ pub sound-fresh : (lists chunks : ℕ) → IsSound (replicate lists fresh_row) (
 sound-fresh lists chunks = record {
   homes = replicate chunks (home_of 0 false 0);
   homed = subst (λ (ls : List PlainList). AreHomed ls (replicate chunks (home_of 0 false 0)) (all_free chunks)) (sym (bare-fresh lists))
-      (homed-fresh lists (replicate chunks (home_of 0 false 0)) (all_free chunks) (sym (length-replicate chunks (home_of 0 false 0))));
+      (homed-fresh lists chunks (replicate chunks (home_of 0 false 0)) (sym (length-replicate chunks (home_of 0 false 0))));
   summed = subst (λ (ls : List PlainList). AreSummed ls (all_free chunks) 0 0) (sym (bare-fresh lists)) (summed-fresh lists chunks);
   ordered = ordered-fresh (map bare_list (replicate lists fresh_row));
   listed = listed-fresh lists;
-  unused = λ c small none. contains_all_below chunks c ∙ lt-ltb c chunks small;
 }
 
 pub rows_sized : (n l : ℕ) → IsSized (row_at (replicate n fresh_row) l)

@@ -12,10 +12,10 @@ use Rattle.list_words.specs.PlainRows.{PlainList}
 use Rattle.list_words.specs.Plain.{Plain, all_chunks, chain, chunk_at, chunk_count, held_chunks, list_in}
 use Rattle.list_words.specs.PlainKept.{home_of}
 use Rattle.list_words.specs.declared.leaf_lists.Phase.TheVariants.{Shut}
-use Rattle.list_words.proofs.ChunkLaws.{SamePlace, one_place}
+use Rattle.list_words.proofs.ChunkLaws.{SamePlace, contained, one_place}
 use Rattle.list_words.proofs.PlainLaws.{count-le, row-map}
 use Rattle.list_words.proofs.StoreLaws.{held-le, nowhere, shut-le}
-use Rattle.list_book.specs.Books.{BookRow, BookValue, IsOrderOfShut, book_row, chunk_in, emptied_row, fresh_row, next_in_order, row_at, row_chain, row_chunks, row_count, row_held, with_next_cleared, with_taken_chunk}
+use Rattle.list_book.specs.Books.{BookRow, BookValue, IsNowhere, IsOrderOfShut, book_row, chunk_in, emptied_row, fresh_row, next_in_order, row_at, row_chain, row_chunks, row_count, row_held, with_next_cleared, with_taken_chunk}
 use Rattle.list_book.specs.BookKept.{IsSound, bare_list}
 use Rattle.list_book.proofs.RowLaws.{bare-row}
 use Rattle.list_book.proofs.SoundLaws.{next_low}
@@ -51,6 +51,12 @@ free_nowhere rows pool held order cleared out seats c kept free l inside =
     let lists : List PlainList = map bare_list rows in
     let p : Plain = record { lists = lists; chunks = 0; free = 0; order = order; cleared = cleared; out = out; grants_room = 0; items_room = 0; given = 0 } in
     nowhere p kept.homes pool c kept.homed free l (subst (λ (cs : List ℕ). Contains cs c) (sym (ap chunks_of (row-map lists l) ∙ ap all_chunks (bare-row rows l))) inside)
+
+-- and a chunk that stands nowhere is free
+pub nowhere_free : (rows : List BookRow) (pool : Numbers) (held : ℕ) (order : List ℕ) (cleared : ℕ) (out : List ℕ) (seats c : ℕ) → IsSound rows pool held order cleared out seats → c < pool.size → IsNowhere rows c → IsFree pool c
+nowhere_free rows pool held order cleared out seats c kept small none =
+    kept.homed.unplaced c small (λ owned l r at.
+    none l (subst (λ (cs : List ℕ). Contains cs c) (ap all_chunks (bare-row rows l)) (contained owned (list_in (map bare_list rows) l) r c at)))
 
 -- ---- how many they are
 

@@ -11,7 +11,7 @@ use Rattle.chunk_pool.proofs.Sets.{contains_removed}
 use Rattle.list_machine.specs.declared.views.Grant.{Grant}
 use Rattle.list_words.specs.Store.{Unreached, counted_off, is_shut}
 use Rattle.list_words.specs.PlainRows.{PlainList, emptied_list}
-use Rattle.list_words.specs.Plain.{chain, chunk_at, chunk_count, list_in}
+use Rattle.list_words.specs.Plain.{all_chunks, chain, chunk_at, chunk_count, list_in}
 use Rattle.list_words.specs.PlainKept.{AreHomed, AreOrdered, AreSummed, home_of}
 use Rattle.list_words.specs.declared.leaf_lists.Phase.TheVariants.{Fresh, Open, Shut}
 use Rattle.list_words.specs.declared.plain_homes.Home.{Home}
@@ -27,50 +27,16 @@ use Rattle.list_book.proofs.RowLaws.{bare-row, bare-set, begun_low, open_is_not_
 bare_low : (rows : List BookRow) (l : ℕ) → l < length rows → l < length (map bare_list rows)
 bare_low rows l low = let long : length (map bare_list rows) ≡ length rows = length-map rows bare_list in omega arith
 
--- ---- chunks that stand nowhere
-
--- a chunk that stands nowhere after a row was replaced by one with its chunks stood nowhere before
-nowhere_before : (rows : List BookRow) (l : ℕ) (b : BookRow) (c : ℕ) → l < length rows → (Contains (row_chunks (row_at rows l)) c → Contains (row_chunks b) c) → IsNowhere (set rows l b) c → IsNowhere rows c
-nowhere_before rows l b c low still none = λ m inside. elim (cases_eq m l) [
-  | inl here ↦ none m (put_here (λ (r : BookRow). Contains (row_chunks r) c) rows l m b low here (still (subst (λ k. Contains (row_chunks (row_at rows k)) c) here inside)))
-  | inr other ↦ none m (put_other (λ (r : BookRow). Contains (row_chunks r) c) rows l m b other inside)
-]
-
-same_chunks : (b q : BookRow) (c : ℕ) → b.claimed ≡ q.claimed → b.owned ≡ q.owned → Contains (row_chunks q) c → Contains (row_chunks b) c
-same_chunks b q c claimed owned inside = subst (λ (cs : List ℕ). Contains cs c) (sym (ap (λ (cs : List ℕ). cs ++ b.owned) claimed ∙ ap (λ (cs : List ℕ). q.claimed ++ cs) owned)) inside
-
-more_chunks : (owned : Bool) (b q : BookRow) (c k : ℕ) → row_chain owned b ≡ row_chain owned q ++ c ∷ [] → row_chain (not owned) b ≡ row_chain (not owned) q → Contains (row_chunks q) k → Contains (row_chunks b) k
-more_chunks true b q c k more rest inside =
-    let parts : row_chunks b ≡ q.claimed ++ (q.owned ++ c ∷ []) = ap (λ (cs : List ℕ). cs ++ b.owned) rest ∙ ap (λ (cs : List ℕ). q.claimed ++ cs) more in
-    subst (λ (cs : List ℕ). Contains cs k) (sym parts) (elim (Contains-append_cases q.claimed q.owned k inside) [
-      | inl first ↦ Contains-append_left q.claimed (q.owned ++ c ∷ []) k first
-      | inr second ↦ Contains-append_right q.claimed (q.owned ++ c ∷ []) k (Contains-append_left q.owned (c ∷ []) k second)
-    ])
-more_chunks false b q c k more rest inside =
-    let parts : row_chunks b ≡ (q.claimed ++ c ∷ []) ++ q.owned = ap (λ (cs : List ℕ). cs ++ b.owned) more ∙ ap (λ (cs : List ℕ). (q.claimed ++ c ∷ []) ++ cs) rest in
-    subst (λ (cs : List ℕ). Contains cs k) (sym parts) (elim (Contains-append_cases q.claimed q.owned k inside) [
-      | inl first ↦ Contains-append_left (q.claimed ++ c ∷ []) q.owned k (Contains-append_left q.claimed (c ∷ []) k first)
-      | inr second ↦ Contains-append_right (q.claimed ++ c ∷ []) q.owned k second
-    ])
-
-new_chunk : (owned : Bool) (b q : BookRow) (c : ℕ) → row_chain owned b ≡ row_chain owned q ++ c ∷ [] → Contains (row_chunks b) c
-new_chunk true b q c more = Contains-append_right b.claimed b.owned c (subst (λ (cs : List ℕ). Contains cs c) (sym more) (Contains-push q.owned c))
-new_chunk false b q c more = Contains-append_left b.claimed b.owned c (subst (λ (cs : List ℕ). Contains cs c) (sym more) (Contains-push q.claimed c))
-
-free_still : (pool : Numbers) (c k : ℕ) → k ≢ c → IsFree pool k → IsFree (without pool c) k
-free_still pool c k other free = contains_removed pool.free c k ∙ ap (λ b. not b && set_of.contains pool.free k) (ne_eqb k c other) ∙ free
-
 -- what is kept after the row of a list was replaced, from its parts
 sound_set : (rows : List BookRow) (l : ℕ) (b : BookRow) (homes : List Home) (pool : Numbers) (held : ℕ) (order : List ℕ) (cleared : ℕ) (out : List ℕ) (seats : ℕ) → AreHomed (set (map bare_list rows) l (bare_list b)) homes pool
     → AreSummed (set (map bare_list rows) l (bare_list b)) pool held (length order) → AreOrdered (set (map bare_list rows) l (bare_list b)) order cleared out seats → IsOrderOfShut (set rows l b) order cleared
-    → ((c : ℕ) → c < pool.size → IsNowhere (set rows l b) c → IsFree pool c) → IsSound (set rows l b) pool held order cleared out seats
-sound_set rows l b homes pool held order cleared out seats homed summed ordered listed unused = record {
+    → IsSound (set rows l b) pool held order cleared out seats
+sound_set rows l b homes pool held order cleared out seats homed summed ordered listed = record {
   homes = homes;
   homed = subst (λ (ls : List PlainList). AreHomed ls homes pool) (sym (bare-set rows l b)) homed;
   summed = subst (λ (ls : List PlainList). AreSummed ls pool held (length order)) (sym (bare-set rows l b)) summed;
   ordered = subst (λ (ls : List PlainList). AreOrdered ls order cleared out seats) (sym (bare-set rows l b)) ordered;
   listed = listed;
-  unused = unused;
 }
 
 -- ---- a list with the same chunks and the same phase
@@ -98,7 +64,6 @@ sound-same rows pool held order cleared out seats l b kept low same =
     (summed-same lists pool held (length order) l (bare_list b) kept.summed within shape)
     (ordered-same lists order cleared out seats l (bare_list b) kept.ordered within shape)
     (listed-set rows order cleared l b kept.listed low (λ shut_now. sym same.phase ∙ shut_now) (λ shut_now. same.phase ∙ shut_now) (λ shut_now none. (same.claimed ∙ none.0, same.owned ∙ none.1)))
-    (λ c small none. kept.unused c small (nowhere_before rows l b c low (same_chunks b (row_at rows l) c same.claimed same.owned) none))
 
 -- a list that was never opened is opened
 pub sound-opened : (rows : List BookRow) (pool : Numbers) (held : ℕ) (order : List ℕ) (cleared : ℕ) (out : List ℕ) (seats l : ℕ) (b : BookRow) → IsSound rows pool held order cleared out seats → l < length rows
@@ -113,7 +78,6 @@ sound-opened rows pool held order cleared out seats l b kept low fresh takes cla
     (summed-same lists pool held (length order) l (bare_list b) kept.summed within shape)
     (ordered-same lists order cleared out seats l (bare_list b) kept.ordered within shape)
     (listed-set rows order cleared l b kept.listed low (λ shut_now. absurd (open_is_not_shut b takes shut_now)) (λ shut_now. absurd (shut_is_not_fresh q shut_now fresh)) (λ shut_now. absurd (shut_is_not_fresh q shut_now fresh)))
-    (λ c small none. kept.unused c small (nowhere_before rows l b c low (same_chunks b q c claimed owned) none))
   where
     chains : (b q : BookRow) → b.claimed ≡ q.claimed → b.owned ≡ q.owned → (owned : Bool) → chain owned (bare_list b) ≡ chain owned (bare_list q)
     chains b q claimed owned true = owned
@@ -141,9 +105,6 @@ sound-more rows pool held order cleared out seats l c b owned kept free small wa
     (summed-more lists pool held (length order) l c (bare_list b) kept.summed within free one (ap is_shut takes) (ap is_shut opened))
     (ordered-set lists order cleared out seats l (bare_list b) kept.ordered within (λ shut_now. absurd (open_is_not_shut (row_at rows l) was (sym (ap (λ (q : PlainList). q.phase) is) ∙ shut_now))))
     (listed-open rows order cleared l b kept.listed was takes)
-    (λ k small none.
-    let before : IsFree pool k = kept.unused k small (nowhere_before rows l b k low (more_chunks owned b (row_at rows l) c k more rest) none) in
-    free_still pool c k (λ same. none l (put_here (λ (r : BookRow). Contains (row_chunks r) k) rows l l b low refl (subst (Contains (row_chunks b)) (sym same) (new_chunk owned b (row_at rows l) c more)))) before)
 
 -- ---- a list is shut
 
@@ -159,13 +120,12 @@ sound-shut rows pool held order cleared out seats l b kept was shut_is =
     let count : chunk_count (bare_list b) ≡ chunk_count (list_in lists l) = ap row_count shut_is ∙ ap chunk_count (sym is) in
     let longer : length order + 1 ≡ length (order ++ l ∷ []) = omega (arith, length-append order (l ∷ [])) in
     sound_set rows l b kept.homes pool (held + row_count (row_at rows l)) (order ++ l ∷ []) cleared (out ++ 0 ∷ []) seats
-    (homed-set lists kept.homes pool l (bare_list b) kept.homed within (λ owned r k at. ap (λ (q : PlainList). slice_get (chain owned q) r) is ∙ ap (λ (q : BookRow). slice_get (row_chain owned q) r) (sym shut_is) ∙ at))
+    (homed-set lists kept.homes pool l (bare_list b) kept.homed within (λ owned. ap (row_chain owned) shut_is ∙ ap (chain owned) (sym is)))
     (subst (λ n. AreSummed (set lists l (bare_list b)) pool (held + row_count (row_at rows l)) n) longer
     (subst (λ n. AreSummed (set lists l (bare_list b)) pool (held + n) (length order + 1)) (ap chunk_count is)
     (summed-shut lists pool held (length order) l (bare_list b) kept.summed within count (ap is_shut shut_now) (ap is_shut opened))))
     (ordered-shut lists order cleared out seats l (bare_list b) kept.ordered within shut_now)
     (listed-shut rows order cleared l b kept.listed kept.ordered.begun was shut_now)
-    (λ c small none. kept.unused c small (nowhere_before rows l b c low (same_chunks b (row_at rows l) c (ap (λ (r : BookRow). r.claimed) shut_is) (ap (λ (r : BookRow). r.owned) shut_is)) none))
 
 -- ---- the next list of the order is cleared
 
@@ -192,20 +152,15 @@ sound-cleared rows pool after held order cleared out seats l kept next nobody si
       | inl before ↦ inl before
       | inr place ↦ inr (place.0, place.1, ap (λ (p : PlainList). slice_get (chain place.0 p) place.1) is ∙ place.2)
     ] in
+    let gone : (q : ℕ) → IsFree after q ⊎ ((IsFree pool q → ⊥) × (Contains (all_chunks (list_in lists l)) q → ⊥)) = λ q.
+    subst (λ (p : PlainList). IsFree after q ⊎ ((IsFree pool q → ⊥) × (Contains (all_chunks p) q → ⊥))) (sym is) (lost q) in
     sound_set rows l b kept.homes after (held - row_count (row_at rows l)) order (cleared + 1) out seats
-    (subst (λ (p : PlainList). AreHomed (set lists l p) kept.homes after) emptied (homed-emptied lists kept.homes pool after l kept.homed within size back))
+    (subst (λ (p : PlainList). AreHomed (set lists l p) kept.homes after) emptied (homed-emptied lists kept.homes pool after l kept.homed within size back gone))
     (subst (λ n. AreSummed (set lists l (bare_list b)) after (held - n) (length order)) count
     (subst (λ (p : PlainList). AreSummed (set lists l p) after (held - chunk_count (list_in lists l)) (length order)) emptied
     (summed-emptied lists pool after held (length order) l kept.summed within (ap is_shut shut_there) size (more ∙ ap (λ n. set_of.len pool.free + n) (sym count)))))
     (ordered-cleared (set lists l (bare_list b)) order cleared out seats (ordered-set lists order cleared out seats l (bare_list b) kept.ordered within (λ shut_now. was)) some nobody)
     (listed-cleared rows order cleared l b kept.listed low next was (refl, refl))
-    (λ q small none. elim (lost q) [
-      | inl free ↦ free
-      | inr gone ↦ absurd (gone.0 (kept.unused q (subst (λ n. q < n) size small) (λ m inside. elim (cases_eq m l) [
-        | inl here ↦ gone.1 (subst (λ k. Contains (row_chunks (row_at rows k)) q) here inside)
-        | inr other ↦ none m (put_other (λ (r : BookRow). Contains (row_chunks r) q) rows l m b other inside)
-      ])))
-    ])
 
 -- ---- seats
 
@@ -217,7 +172,6 @@ sound-seat rows pool held order cleared out seats b v kept place value = record 
   summed = kept.summed;
   ordered = counted_here (map bare_list rows) order cleared out seats b v kept.ordered place value;
   listed = kept.listed;
-  unused = kept.unused;
 }
 
 pub sound-seat_off : (rows : List BookRow) (pool : Numbers) (held : ℕ) (order : List ℕ) (cleared : ℕ) (out : List ℕ) (seats b n : ℕ) → IsSound rows pool held order cleared out seats → n ≡ sum (counted_off out b)
@@ -228,7 +182,6 @@ sound-seat_off rows pool held order cleared out seats b n kept is = record {
   summed = kept.summed;
   ordered = ordered-counted_off (map bare_list rows) order cleared out seats b n kept.ordered is;
   listed = kept.listed;
-  unused = kept.unused;
 }
 
 -- ---- grants

@@ -2,11 +2,11 @@
 use Rattle.std.specs.Prelude.{ℕ, ◌+◌, ◌^◌, ◌<◌, ◌≤◌, List, [], length, map, vec_len}
 use Rattle.std.specs.Vec.{vec_capacity}
 use Rattle.std.specs.FinSet as set
-use Rattle.chunk_pool.specs.Numbers.{Numbers, IsFree}
+use Rattle.chunk_pool.specs.Numbers.{Numbers}
 use Rattle.list_words.specs.PlainRows.{PlainList}
 use Rattle.list_words.specs.PlainKept.{AreHomed, AreOrdered, AreSummed}
 use Rattle.list_words.specs.declared.plain_homes.Home.{Home}
-use Rattle.list_book.specs.Books.{BookRow, BookValue, IsNowhere, IsOrderOfShut, IsSized, row_at}
+use Rattle.list_book.specs.Books.{BookRow, BookValue, IsOrderOfShut, IsSized, row_at}
 use Rattle.list_book.specs.declared.book.Book.TheInside.{Inside}
 
 -- a row as a list over vectors without items
@@ -25,8 +25,6 @@ pub record IsSound (rows : List BookRow) (pool : Numbers) (held_count : ℕ) (or
   pub summed : AreSummed (map bare_list rows) pool held_count (length order)
   pub ordered : AreOrdered (map bare_list rows) order cleared out seat_count
   pub listed : IsOrderOfShut rows order cleared
-  -- a chunk that stands nowhere is free
-  pub unused : (c : ℕ) → c < pool.size → IsNowhere rows c → IsFree pool c
 
 -- besides, the rows are sized, and there is memory for all lists in the order
 pub record IsKept (a : Inside) : Type 0 where

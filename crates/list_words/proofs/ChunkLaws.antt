@@ -1,18 +1,19 @@
 -- Chunks that are taken for a chain, and given back.
 use Rattle.std.proofs.Common.{◌≡◌, ◌≢◌, ℕ, zero, suc, ◌+◌, ◌-◌, ◌<◌, ◌⊎◌, inl, inr, Bool, true, false, not, ◌&&◌, cond, List, [], ◌∷◌, ◌++◌, length, set, Some, None, Option, ap, refl, sym, subst, ◌∙◌, arith, nat_eq}
-use Rattle.std.specs.List.{slice_get, sum_by}
+use Rattle.std.specs.List.{Contains, slice_get, sum_by}
 use Rattle.std.specs.FinSet as set_of
-use Rattle.std.proofs.lemmas.Bool.{eq-eqb}
+use Rattle.std.proofs.lemmas.Bool.{cases_eq, eq-eqb, ne_eqb}
+use Rattle.std.proofs.lemmas.List.Elements.{Contains-append_left, Contains-append_right}
 use Rattle.std.proofs.lemmas.List.Sums.{sum_by-set}
 use Rattle.chunk_pool.specs.Numbers.{Numbers, IsFree, without}
 use Rattle.chunk_pool.proofs.Sets.{contains_removed, len_inserted, put_back}
 use Rattle.list_words.specs.Store.{is_shut}
 use Rattle.list_words.specs.PlainRows.{PlainList, no_list, emptied_list}
-use Rattle.list_words.specs.Plain.{list_in, chain, chunk_at, chunk_count, held_chunks, shut_count}
+use Rattle.list_words.specs.Plain.{all_chunks, list_in, chain, chunk_at, chunk_count, held_chunks, shut_count}
 use Rattle.list_words.specs.PlainKept.{home_of, AreHomed, AreSummed}
 use Rattle.list_words.specs.declared.plain_homes.Home.{Home}
-use Rattle.list_words.proofs.Places.{slice_get-push, slice_get-set_same, slice_get-set_other}
-use Rattle.list_words.proofs.PlainLaws.{chunk_at-set}
+use Rattle.list_words.proofs.Places.{contains_at, slice_get-last, slice_get-more, slice_get-push, slice_get-set_same, slice_get-set_other}
+use Rattle.list_words.proofs.PlainLaws.{chunk_at-set, chunk_at-set_other, chunk_at-set_same}
 
 -- ---- a chunk is taken
 
@@ -25,6 +26,9 @@ free_before p c q free = true_right (not (nat_eq q c)) (set_of.contains p.free q
 
 gone : (p : Numbers) (c : ℕ) → set_of.contains (without p c).free c ≡ false
 gone p c = contains_removed p.free c c ∙ ap (λ b. not b && set_of.contains p.free c) (eq-eqb c c refl)
+
+free_still : (p : Numbers) (c k : ℕ) → k ≢ c → IsFree p k → IsFree (without p c) k
+free_still p c k other free = contains_removed p.free c k ∙ ap (λ b. not b && set_of.contains p.free k) (ne_eqb k c other) ∙ free
 
 pub taken_is_gone : (p : Numbers) (c : ℕ) → IsFree (without p c) c → ⊥
 taken_is_gone p c free = differ (sym (gone p c) ∙ free)
@@ -56,6 +60,28 @@ chunk_at-more lists l c b owned low more rest o m r q at = elim (chunk_at-set li
   ]
 ]
 
+-- it stands at the end of that chain, and the others where they stood
+chunk_at-end : (lists : List PlainList) (l c : ℕ) (b : PlainList) (owned : Bool) → l < length lists → chain owned b ≡ chain owned (list_in lists l) ++ c ∷ [] → chunk_at (set lists l b) owned l (length (chain owned (list_in lists l))) ≡ Some c
+chunk_at-end lists l c b owned low more =
+    chunk_at-set_same lists l b owned l (length (chain owned (list_in lists l))) low refl
+    ∙ ap (λ (cs : List ℕ). slice_get cs (length (chain owned (list_in lists l)))) more ∙ slice_get-last (chain owned (list_in lists l)) c
+
+chunk_at-still : (lists : List PlainList) (l c : ℕ) (b : PlainList) (owned : Bool) → l < length lists → chain owned b ≡ chain owned (list_in lists l) ++ c ∷ [] → chain (not owned) b ≡ chain (not owned) (list_in lists l)
+    → (o : Bool) (m r q : ℕ) → chunk_at lists o m r ≡ Some q → chunk_at (set lists l b) o m r ≡ Some q
+chunk_at-still lists l c b owned low more rest o m r q at = elim (cases_eq m l) [
+  | inr other ↦ chunk_at-set_other lists l b o m r other ∙ at
+  | inl here ↦
+      chunk_at-set_same lists l b o m r low here
+      ∙ elim (same_or_not o owned) [
+        | inl same ↦
+            ap (λ w. slice_get (chain w b) r) same ∙ ap (λ (cs : List ℕ). slice_get cs r) more
+            ∙ slice_get-more (chain owned (list_in lists l)) (c ∷ []) r q (ap (λ w. chunk_at lists w l r) (sym same) ∙ ap (λ k. chunk_at lists o k r) (sym here) ∙ at)
+        | inr differs ↦
+            ap (λ w. slice_get (chain w b) r) differs ∙ ap (λ (cs : List ℕ). slice_get cs r) rest
+            ∙ ap (λ w. chunk_at lists w l r) (sym differs) ∙ ap (λ k. chunk_at lists o k r) (sym here) ∙ at
+      ]
+]
+
 pub homed-more : (lists : List PlainList) (homes : List Home) (pool : Numbers) (l c : ℕ) (b : PlainList) (owned : Bool) → AreHomed lists homes pool → l < length lists → IsFree pool c → c < length homes
     → chain owned b ≡ chain owned (list_in lists l) ++ c ∷ [] → chain (not owned) b ≡ chain (not owned) (list_in lists l)
     → AreHomed (set lists l b) (set homes c (home_of l owned (length (chain owned (list_in lists l))))) (without pool c)
@@ -76,6 +102,10 @@ homed-more lists homes pool l c b owned kept low free small more rest =
         | inl before ↦ kept.taken o m r q before (free_before pool c q now_free)
         | inr new ↦ taken_is_gone pool c (subst (λ k. IsFree (without pool c) k) (sym new.3) now_free)
       ];
+      unplaced = λ q low_chunk none.
+          free_still pool c q
+          (λ e. none owned l (length (chain owned (list_in lists l))) (subst (λ k. chunk_at (set lists l b) owned l (length (chain owned (list_in lists l))) ≡ Some k) (sym e) (chunk_at-end lists l c b owned low more)))
+          (kept.unplaced q low_chunk (λ o m r at. none o m r (chunk_at-still lists l c b owned low more rest o m r q at)));
       size = kept.size ∙ sym (length_same homes c h);
     }
   where
@@ -148,9 +178,14 @@ no_chunk : (o : Bool) (p : PlainList) (r q : ℕ) → slice_get (chain o (emptie
 no_chunk true p r q at = cc
 no_chunk false p r q at = cc
 
+pub contained : (o : Bool) (p : PlainList) (r q : ℕ) → slice_get (chain o p) r ≡ Some q → Contains (all_chunks p) q
+contained true p r q at = Contains-append_right p.claimed p.owned q (contains_at p.owned r q at)
+contained false p r q at = Contains-append_left p.claimed p.owned q (contains_at p.claimed r q at)
+
 pub homed-emptied : (lists : List PlainList) (homes : List Home) (pool after : Numbers) (l : ℕ) → AreHomed lists homes pool → l < length lists → after.size ≡ pool.size
-    → ((q : ℕ) → IsFree after q → IsFree pool q ⊎ ((w : Bool) × (i : ℕ) × (chunk_at lists w l i ≡ Some q))) → AreHomed (set lists l (emptied_list (list_in lists l))) homes after
-homed-emptied lists homes pool after l kept low size given =
+    → ((q : ℕ) → IsFree after q → IsFree pool q ⊎ ((w : Bool) × (i : ℕ) × (chunk_at lists w l i ≡ Some q)))
+    → ((q : ℕ) → IsFree after q ⊎ ((IsFree pool q → ⊥) × (Contains (all_chunks (list_in lists l)) q → ⊥))) → AreHomed (set lists l (emptied_list (list_in lists l))) homes after
+homed-emptied lists homes pool after l kept low size given lost =
     let was : (o : Bool) (m r q : ℕ) → chunk_at (set lists l (emptied_list (list_in lists l))) o m r ≡ Some q → (m ≢ l) × (chunk_at lists o m r ≡ Some q) = λ o m r q at.
     elim (chunk_at-set lists l (emptied_list (list_in lists l)) o m r q low at) [
       | inl here ↦ absurd (no_chunk o (list_in lists l) r q here.1)
@@ -163,6 +198,13 @@ homed-emptied lists homes pool after l kept low size given =
         | inr back ↦
             let place : SamePlace o back.0 m l r back.1 = one_place lists homes pool kept o back.0 m l r back.1 q (was o m r q at).1 back.2 in
             (was o m r q at).0 place.list
+      ];
+      unplaced = λ q small none. elim (lost q) [
+        | inl free ↦ free
+        | inr gone ↦ absurd (gone.0 (kept.unplaced q (subst (λ n. q < n) size small) (λ o m r at. elim (cases_eq m l) [
+          | inl here ↦ gone.1 (contained o (list_in lists l) r q (ap (λ k. chunk_at lists o k r) (sym here) ∙ at))
+          | inr other ↦ none o m r (chunk_at-set_other lists l (emptied_list (list_in lists l)) o m r other ∙ at)
+        ])))
       ];
       size = size ∙ kept.size;
     }

@@ -2,9 +2,10 @@
 use Rattle.std.proofs.Common.{◌≡◌, ℕ, zero, suc, Bool, true, false, List, [], ◌∷◌, length, Some, ap, refl, sym, ◌∙◌, arith}
 use Rattle.std.specs.Prelude.{replicate}
 use Rattle.std.specs.List.{slice_get}
+use Rattle.std.proofs.lemmas.Bool.{lt-ltb}
 use Rattle.std.proofs.lemmas.List.Folds.{sum_by-replicate}
-use Rattle.chunk_pool.specs.Numbers.{Numbers, all_free}
-use Rattle.chunk_pool.proofs.HeapLaws.{len_all_below}
+use Rattle.chunk_pool.specs.Numbers.{all_free}
+use Rattle.chunk_pool.proofs.HeapLaws.{contains_all_below, len_all_below}
 use Rattle.list_words.specs.PlainRows.{PlainList, no_list}
 use Rattle.list_words.specs.Plain.{chain, chunk_at, chunk_count, held_chunks, list_in, shut_count}
 use Rattle.list_words.specs.PlainKept.{AreHomed, AreOrdered, AreSummed}
@@ -22,10 +23,11 @@ no_chunk_there false r c at = cc
 no_chunks : (n : ℕ) (owned : Bool) (l r c : ℕ) → chunk_at (replicate n no_list) owned l r ≡ Some c → ⊥
 no_chunks n owned l r c at = no_chunk_there owned r c (sym (ap (λ (q : PlainList). slice_get (chain owned q) r) (fresh_list n l)) ∙ at)
 
-pub homed-fresh : (n : ℕ) (homes : List Home) (pool : Numbers) → pool.size ≡ length homes → AreHomed (replicate n no_list) homes pool
-homed-fresh n homes pool size = record {
+pub homed-fresh : (n chunks : ℕ) (homes : List Home) → chunks ≡ length homes → AreHomed (replicate n no_list) homes (all_free chunks)
+homed-fresh n chunks homes size = record {
   home = λ owned l r c at. absurd (no_chunks n owned l r c at);
   taken = λ owned l r c at free. no_chunks n owned l r c at;
+  unplaced = λ c small none. contains_all_below chunks c ∙ lt-ltb c chunks small;
   size = size;
 }
 

@@ -57,18 +57,28 @@ chunk_at-set lists l b owned m r c low at = elim (cases_eq m l) [
   | inr other ↦ inr (other, sym (ap (λ (p : PlainList). slice_get (chain owned p) r) (list_in-set_other lists l m b other)) ∙ at)
 ]
 
--- a list whose chains have no further chunks
+-- the chunks of other lists stay
+pub chunk_at-set_other : (lists : List PlainList) (l : ℕ) (b : PlainList) (owned : Bool) (m r : ℕ) → m ≢ l → chunk_at (set lists l b) owned m r ≡ chunk_at lists owned m r
+chunk_at-set_other lists l b owned m r other = ap (λ (p : PlainList). slice_get (chain owned p) r) (list_in-set_other lists l m b other)
+
+-- and this one's are those of its new row
+pub chunk_at-set_same : (lists : List PlainList) (l : ℕ) (b : PlainList) (owned : Bool) (m r : ℕ) → l < length lists → m ≡ l → chunk_at (set lists l b) owned m r ≡ slice_get (chain owned b) r
+chunk_at-set_same lists l b owned m r low same = ap (λ (p : PlainList). slice_get (chain owned p) r) (ap (list_in (set lists l b)) same ∙ list_in-set_same lists l b low)
+
+-- a list with the same chains
 pub homed-set : (lists : List PlainList) (homes : List Home) (pool : Numbers) (l : ℕ) (b : PlainList) → AreHomed lists homes pool → l < length lists
-    → ((owned : Bool) (r c : ℕ) → slice_get (chain owned b) r ≡ Some c → slice_get (chain owned (list_in lists l)) r ≡ Some c) → AreHomed (set lists l b) homes pool
-homed-set lists homes pool l b kept low fewer =
-    let was : (owned : Bool) (m r c : ℕ) → chunk_at (set lists l b) owned m r ≡ Some c → chunk_at lists owned m r ≡ Some c = λ owned m r c at.
-    elim (chunk_at-set lists l b owned m r c low at) [
-      | inl here ↦ ap (λ k. chunk_at lists owned k r) here.0 ∙ fewer owned r c here.1
-      | inr there ↦ there.1
+    → ((owned : Bool) → chain owned b ≡ chain owned (list_in lists l)) → AreHomed (set lists l b) homes pool
+homed-set lists homes pool l b kept low chains =
+    let same : (owned : Bool) (m r : ℕ) → chunk_at (set lists l b) owned m r ≡ chunk_at lists owned m r = λ owned m r. elim (cases_eq m l) [
+      | inl here ↦
+          chunk_at-set_same lists l b owned m r low here ∙ ap (λ (cs : List ℕ). slice_get cs r) (chains owned)
+          ∙ ap (λ k. chunk_at lists owned k r) (sym here)
+      | inr other ↦ chunk_at-set_other lists l b owned m r other
     ] in
     record {
-      home = λ owned m r c at. kept.home owned m r c (was owned m r c at);
-      taken = λ owned m r c at. kept.taken owned m r c (was owned m r c at);
+      home = λ owned m r c at. kept.home owned m r c (sym (same owned m r) ∙ at);
+      taken = λ owned m r c at. kept.taken owned m r c (sym (same owned m r) ∙ at);
+      unplaced = λ c small none. kept.unplaced c small (λ owned m r at. none owned m r (same owned m r ∙ at));
       size = kept.size;
     }
 

@@ -7,9 +7,9 @@ use Rattle.std.proofs.lemmas.Option.{slice_get_within, slice_get-get_or, get_or_
 use Rattle.std.proofs.lemmas.List.{length-map, map-set, get_or_default, get_or_past, set_past}
 use Rattle.std.proofs.lemmas.List.Elements.{Contains-append_cases, Contains-append_left, Contains-append_right}
 use Rattle.std.proofs.lemmas.List.Sums.{sum_by-cons, sum_by-le-sum_by}
-use Rattle.chunk_pool.specs.Numbers.{Numbers, IsFree}
+use Rattle.chunk_pool.specs.Numbers.{Numbers, IsFree, IsLeastFree}
 use Rattle.list_words.specs.Filing.{Filing}
-use Rattle.list_words.specs.Store.{Store, Row, AreMarks, IsOpen, IsShut, IsStanding, Keeps, chunks_of, found_in, grant_rows, is_shut, more_granted, row, shut_now, shut_with, with_chunk, with_row}
+use Rattle.list_words.specs.Store.{Store, Row, AreMarks, IsNextChunk, IsOpen, IsShut, IsStanding, Keeps, chunks_of, found_in, grant_rows, is_shut, more_granted, row, shut_now, shut_with, with_chunk, with_row}
 use Rattle.list_words.specs.PlainRows.{emptied_list, granted_list, lengthened_list, linked_list, placed_list, shut_list}
 use Rattle.list_words.specs.PlainGrants.{MayGrant, grant_lists}
 use Rattle.list_machine.specs.declared.views.Grant.{Grant}
@@ -68,7 +68,7 @@ pub record SameShape (b q : PlainList) : Type 0 where
   pub still : q.phase ≡ Shut → b.phase ≡ Shut
 
 pub homed-same : (lists : List PlainList) (homes : List Home) (pool : Numbers) (l : ℕ) (b : PlainList) → AreHomed lists homes pool → l < length lists → SameShape b (list_in lists l) → AreHomed (set lists l b) homes pool
-homed-same lists homes pool l b kept low same = homed-set lists homes pool l b kept low (λ owned r c at. sym (ap (λ (cs : List ℕ). slice_get cs r) (same.chains owned)) ∙ at)
+homed-same lists homes pool l b kept low same = homed-set lists homes pool l b kept low same.chains
 
 pub summed-same : (lists : List PlainList) (pool : Numbers) (held shuts l : ℕ) (b : PlainList) → AreSummed lists pool held shuts → l < length lists → SameShape b (list_in lists l) → AreSummed (set lists l b) pool held shuts
 summed-same lists pool held shuts l b kept low same =
@@ -237,6 +237,17 @@ nowhere p homes pool c kept free l inside =
       | inl claimed ↦ let place : (r : ℕ) × (slice_get (list_in p.lists l).claimed r ≡ Some c) = chunk_in (list_in p.lists l).claimed c claimed in kept.taken false l place.0 c place.1 free
       | inr owned ↦ let place : (r : ℕ) × (slice_get (list_in p.lists l).owned r ≡ Some c) = chunk_in (list_in p.lists l).owned c owned in kept.taken true l place.0 c place.1 free
     ]
+
+-- the chunk that the pool gives is the next for a chain
+pub next_chunk : (p : Plain) (homes : List Home) (pool : Numbers) (c : ℕ) → p.chunks ≡ pool.size → AreHomed p.lists homes pool → IsLeastFree pool c → c < pool.size → IsNextChunk (store_of p) c
+next_chunk p homes pool c size kept is low = record {
+  below = subst (λ n. c < n) (sym size) low;
+  unused = nowhere p homes pool c kept is.free;
+  least = λ d none. elim (cases_lt d pool.size) [
+    | inl small ↦ is.least d (kept.unplaced d small (no_place p d none))
+    | inr past ↦ omega (arith, low, past)
+  ];
+}
 
 pub store_chunk : (p : Plain) (l : ℕ) (old new : PlainList) (f : Row → Row) (n : ℕ) → old ≡ list_in p.lists l → row_of new ≡ f (row_of old) → n + 1 ≡ p.free
     → store_of (record p { lists = set p.lists l new; free = n }) ≡ with_chunk (store_of p) l (f (row (store_of p) l))

@@ -13,10 +13,15 @@ use Rattle.list_words.specs.declared.plain_lists.PlainLists.TheInside.{Inside}
 abbrev pub home_of : ℕ → Bool → ℕ → Home
 home_of l owned r = record { list = l; owned = owned; rank = r }
 
--- each chunk of a chain has its place there as its home, and is not free
+-- a chunk has no place in a chain
+abbrev pub IsUnplaced : List PlainList → ℕ → Type 0
+IsUnplaced lists c = (owned : Bool) (l r : ℕ) → chunk_at lists owned l r ≡ Some c → ⊥
+
+-- each chunk of a chain has its place there as its home, and is not free; each other chunk is free
 pub record AreHomed (lists : List PlainList) (homes : List Home) (pool : Numbers) : Type 0 where
   pub home : (owned : Bool) (l r c : ℕ) → chunk_at lists owned l r ≡ Some c → slice_get homes c ≡ Some (home_of l owned r)
   pub taken : (owned : Bool) (l r c : ℕ) → chunk_at lists owned l r ≡ Some c → IsFree pool c → ⊥
+  pub unplaced : (c : ℕ) → c < pool.size → IsUnplaced lists c → IsFree pool c
   pub size : pool.size ≡ length homes
 
 -- each chunk is free or in a chain, and what is held and what is shut was counted

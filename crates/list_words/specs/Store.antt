@@ -62,6 +62,12 @@ chunks_of r = r.claimed ++ r.owned
 abbrev pub IsInNoChain : Store → ℕ → Type 0
 IsInNoChain s c = (l : ℕ) → Contains (chunks_of (row s l)) c → ⊥
 
+-- the chunk that a chain gets next: the least of those that stand in no chain
+pub record IsNextChunk (s : Store) (c : ℕ) : Type 0 where
+  pub below : c < s.chunks
+  pub unused : IsInNoChain s c
+  pub least : (d : ℕ) → IsInNoChain s d → c ≤ d
+
 -- the items that the sweep of a shut list appended: those of the claimed slots, and then those of the owned ones
 abbrev pub found_in : Row → List ℕ
 found_in r = filter_map (λ x. x) r.marked ++ r.placed

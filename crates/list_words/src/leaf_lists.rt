@@ -1,7 +1,7 @@
 ghost use Rattle.std.specs.Prelude.{◌≡◌, ℕ, ◌+◌, ◌-◌, ◌*◌, ◌/◌, ◌%◌, ◌<◌, ◌≤◌, ◌↔◌, List, [], ◌++◌, length, Option, Some, OnOk, OnErr, IsTrue, Contains, slice_get, slice_index, vec_len};
 ghost use Rattle.std.specs.Vec.{vec_capacity};
 ghost use Rattle.list_words.specs.Filing.{Filing};
-ghost use Rattle.list_words.specs.Store.{Store, Row, Seat, AreMarks, IsStanding, IsFiledAt, IsFoundAt, Stood, StandOnce, MayAdmit, ClearsTo, IsCleared, IsInNoChain, IsOpen, IsReclaimed, IsShut, Keeps, KeepsSlots, row, with_row, with_chunk, with_filer_room, roomier, opened, linked, lengthened, placed_in, shut_now, found_in, chunks_of, admitted, one_more, one_less, birth_now, seats_out, held_of};
+ghost use Rattle.list_words.specs.Store.{Store, Row, Seat, AreMarks, IsStanding, IsFiledAt, IsFoundAt, Stood, StandOnce, MayAdmit, ClearsTo, IsCleared, IsNextChunk, IsOpen, IsReclaimed, IsShut, Keeps, KeepsSlots, row, with_row, with_chunk, with_filer_room, roomier, opened, linked, lengthened, placed_in, shut_now, found_in, chunks_of, admitted, one_more, one_less, birth_now, seats_out, held_of};
 ghost use Rattle.list_words.specs.declared.leaf_lists.Answer.{Answer};
 ghost use Rattle.list_words.specs.declared.leaf_lists.Seen.{Seen};
 ghost use Rattle.list_words.specs.declared.leaf_lists.Filed.TheVariants.{At, Late};
@@ -127,22 +127,22 @@ pub trait LeafLists {
         ensures kept { KeepsSlots (shown self.old) (shown self.new) }
         ensures borne { (f : Self.Filer) → borne_out self.old f → borne_out self.new f };
 
-    /// Puts a free chunk at the end of the claimed chain.
+    /// Puts the least free chunk at the end of the claimed chain.
     fn extend_claimed(&mut self, list: u32)
         requires takes { IsOpen (store self.old) list }
         requires room { 0 < (row (store self.old) list).claimed_room }
         requires free { 0 < (store self.old).free }
-        ensures store { (c : ℕ) × (c < (store self.old).chunks) × IsInNoChain (store self.old) c × (store self.new ≡ with_chunk (store self.old) list (linked (row (store self.old) list) c)) }
+        ensures store { (c : ℕ) × IsNextChunk (store self.old) c × (store self.new ≡ with_chunk (store self.old) list (linked (row (store self.old) list) c)) }
         ensures known { Keeps (knows self.old) (knows self.new) }
         ensures kept { KeepsSlots (shown self.old) (shown self.new) }
         ensures borne { (f : Self.Filer) → borne_out self.old f → borne_out self.new f };
 
-    /// Puts a free chunk at the end of the owned chain.
+    /// Puts the least free chunk at the end of the owned chain.
     fn extend_owned(&mut self, list: u32)
         requires takes { IsOpen (store self.old) list }
         requires room { 0 < (row (store self.old) list).owned_room }
         requires free { 0 < (store self.old).free }
-        ensures store { (c : ℕ) × (c < (store self.old).chunks) × IsInNoChain (store self.old) c × (store self.new ≡ with_chunk (store self.old) list (lengthened (row (store self.old) list) c)) }
+        ensures store { (c : ℕ) × IsNextChunk (store self.old) c × (store self.new ≡ with_chunk (store self.old) list (lengthened (row (store self.old) list) c)) }
         ensures known { Keeps (knows self.old) (knows self.new) }
         ensures kept { KeepsSlots (shown self.old) (shown self.new) }
         ensures borne { (f : Self.Filer) → borne_out self.old f → borne_out self.new f };

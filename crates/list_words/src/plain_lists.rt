@@ -6,7 +6,7 @@ ghost use Rattle.list_words.specs.Filing.{Filing, HasGrant, answered};
 ghost use Rattle.list_words.specs.Plain.{Bears, BearsOut, Knows, SameFiled, Saw, Shown, StayFiled, chunk_at, claims_in, fresh_plain, list_in, next_cleared, next_list, seat_of, slot_word, store_of, with_list};
 ghost use Rattle.list_words.specs.PlainRows.{filed_list, items_of, no_list};
 ghost use Rattle.list_words.specs.PlainGrants.{MayGrant, grant_lists};
-ghost use Rattle.list_words.specs.Store.{AreMarks, IsCleared, IsFiledAt, IsFoundAt, IsInNoChain, IsOpen, IsReclaimed, IsShut, IsStanding, Keeps, KeepsSlots, MayAdmit, StandOnce, Stood, Unreached, admitted, birth_now, chunks_of, found_in, lengthened, linked, one_less, one_more, opened, placed_in, roomier, row, seats_out, shut_now, with_chunk, with_filer_room, with_row};
+ghost use Rattle.list_words.specs.Store.{AreMarks, IsCleared, IsFiledAt, IsFoundAt, IsInNoChain, IsNextChunk, IsOpen, IsReclaimed, IsShut, IsStanding, Keeps, KeepsSlots, MayAdmit, StandOnce, Stood, Unreached, admitted, birth_now, chunks_of, found_in, lengthened, linked, one_less, one_more, opened, placed_in, roomier, row, seats_out, shut_now, with_chunk, with_filer_room, with_row};
 ghost use Rattle.list_words.specs.declared.leaf_lists.Filed.TheVariants.{At, Late};
 ghost use Rattle.list_words.specs.declared.leaf_lists.Answer.{Answer};
 ghost use Rattle.list_words.specs.declared.leaf_lists.Seen.{Seen};
@@ -236,7 +236,7 @@ impl LeafLists for PlainLists {
         requires takes { IsOpen (store_of self.old) list }
         requires room { 0 < (row (store_of self.old) list).claimed_room }
         requires free { 0 < (store_of self.old).free }
-        ensures store { (c : ℕ) × (c < (store_of self.old).chunks) × IsInNoChain (store_of self.old) c × (store_of self.new ≡ with_chunk (store_of self.old) list (linked (row (store_of self.old) list) c)) }
+        ensures store { (c : ℕ) × IsNextChunk (store_of self.old) c × (store_of self.new ≡ with_chunk (store_of self.old) list (linked (row (store_of self.old) list) c)) }
         ensures known { Keeps (Knows self.old) (Knows self.new) }
         ensures kept { KeepsSlots (Shown self.old) (Shown self.new) }
         ensures borne { (f : Filing) → BearsOut self.old f → BearsOut self.new f }
@@ -259,7 +259,7 @@ impl LeafLists for PlainLists {
         requires takes { IsOpen (store_of self.old) list }
         requires room { 0 < (row (store_of self.old) list).owned_room }
         requires free { 0 < (store_of self.old).free }
-        ensures store { (c : ℕ) × (c < (store_of self.old).chunks) × IsInNoChain (store_of self.old) c × (store_of self.new ≡ with_chunk (store_of self.old) list (lengthened (row (store_of self.old) list) c)) }
+        ensures store { (c : ℕ) × IsNextChunk (store_of self.old) c × (store_of self.new ≡ with_chunk (store_of self.old) list (lengthened (row (store_of self.old) list) c)) }
         ensures known { Keeps (Knows self.old) (Knows self.new) }
         ensures kept { KeepsSlots (Shown self.old) (Shown self.new) }
         ensures borne { (f : Filing) → BearsOut self.old f → BearsOut self.new f }

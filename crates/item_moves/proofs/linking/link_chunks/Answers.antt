@@ -24,7 +24,7 @@ loop-chunk-preserved g c =
     let e = c.extend_claimed.ensures.store in
     let o : IsOpen t c.args.list = linked_open s t _ _ c.args.list c.loop-chunk.invariant.linked c.requires.takes in
     let one : AreLinked t (g.L.LeafLists.store c.extend_claimed.new.self) (one_grown c.args.list 1) 1 =
-    subst (λ (u : Store). AreLinked t u (one_grown c.args.list 1) 1) (sym e.3)
+    subst (λ (u : Store). AreLinked t u (one_grown c.args.list 1) 1) (sym e.2)
     (linked_one t c.args.list e.0 o
     (omega (arith, c.loop-chunk.invariant.linked.room c.args.list, grown_here c.args.list c.loop-chunk._chunk, c.requires.room))
     (omega (arith, c.loop-chunk.invariant.linked.free, c.requires.free))) in

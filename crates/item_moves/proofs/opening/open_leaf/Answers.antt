@@ -28,7 +28,7 @@ loop-chunk-preserved g c =
     let t : Store = g.L.LeafLists.store c.loop-chunk.lists in
     let e = c.extend_owned.ensures.store in
     record {
-      opened = subst (λ (u : Store). IsOpened s u c.args.list (c.loop-chunk._chunk + 1)) (sym e.3)
+      opened = subst (λ (u : Store). IsOpened s u c.args.list (c.loop-chunk._chunk + 1)) (sym e.2)
           (opened_more s t c.args.list c.loop-chunk._chunk e.0 c.loop-chunk.invariant.opened
           (omega (arith, c.loop-chunk.invariant.opened.room, c.requires.room)) (omega (arith, c.loop-chunk.invariant.opened.free, c.requires.free)));
       known = λ l k x h. c.extend_owned.ensures.known l k x (c.loop-chunk.invariant.known l k x h);

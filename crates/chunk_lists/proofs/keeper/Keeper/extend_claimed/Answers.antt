@@ -2,7 +2,7 @@ use Rattle.std.proofs.Common.{◌≡◌, ℕ, suc, ◌-◌, ◌<◌, false, List
 use Rattle.std.specs.Prelude.{slice_get}
 use Rattle.list_machine.specs.Facts.{LeadsTo}
 use Rattle.list_machine.specs.Steps.{with_claimed}
-use Rattle.list_words.specs.Store.{Row, row, with_chunk, linked, IsInNoChain}
+use Rattle.list_words.specs.Store.{Row, row, with_chunk, linked, IsNextChunk}
 use Rattle.list_words.specs.declared.leaf_lists.Phase.TheVariants.{Open}
 use Rattle.list_book.specs.Books.{book_row, with_taken_chunk, linked_row}
 use Rattle.list_table.specs.Ledgers.{leaf_of, notes_of}
@@ -11,7 +11,7 @@ use Rattle.list_table.specs.declared.views.Ledger.{Ledger}
 use Rattle.chunk_lists.specs.Keepers.{IsKeeper, KnownIn, store_of}
 use Rattle.list_table.specs.Tables.{OwnerValue}
 use Rattle.list_book.specs.Books.{BookValue}
-use Rattle.chunk_lists.proofs.Chunks.{free_chunk, in_no_chain, leads_last, chain_is_short}
+use Rattle.chunk_lists.proofs.Chunks.{free_chunk, next_chunk, leads_last, chain_is_short}
 use Rattle.chunk_lists.proofs.Ties.{phase_is, open_below, open_phase, row_is, tied_set, store_then, same_notes, linked_tied}
 use Rattle.list_table.specs.Ledgers.{Knows}
 use Rattle.chunk_lists.proofs.keeper.Keeper.extend_claimed.Goals as goal
@@ -100,11 +100,9 @@ returns-clause-store c =
     let unshut = phase_is n m g b t l Open (subst (λ k. (row (store_of k) l).phase ≡ Open) (sym c.self.view_is) c.requires.takes) in
     let low = open_below n m g b t l unshut in
     let x = c.extend_claimed-chunk.result in
-    let low_chunk = c.extend_claimed-chunk.ensures.below in
-    subst (λ k. (y : ℕ) × (y < k.book.chunks) × IsInNoChain (store_of k) y × (store_of (record { name = c.link.new.seat.name; ledger = c.link.new.seat.ledger; book = c.extend_claimed-chunk.new.self }) ≡ with_chunk (store_of k) l (linked (row (store_of k) l) y))) c.self.view_is (
+    subst (λ k. (y : ℕ) × IsNextChunk (store_of k) y × (store_of (record { name = c.link.new.seat.name; ledger = c.link.new.seat.ledger; book = c.extend_claimed-chunk.new.self }) ≡ with_chunk (store_of k) l (linked (row (store_of k) l) y))) c.self.view_is (
       x,
-      low_chunk,
-      in_no_chain n m g b t i.seat.name x c.extend_claimed-chunk.ensures.unused,
+      next_chunk n m g b t i.seat.name x c.extend_claimed-chunk.ensures.below c.extend_claimed-chunk.ensures.unused c.extend_claimed-chunk.ensures.least,
       (λ j. store_of (record { name = c.link.ensures.name j; ledger = c.link.ensures.ledger j; book = c.extend_claimed-chunk.ensures.book j }))
           ∙ store_then n m g b t i.seat.name (after_link g l (last_link c.copied-behind.result) x) (with_taken_chunk b l (linked_row (book_row b l) x)) l (linked_row (book_row b l) x) (with_claimed (leaf_of g l) x) (notes_of g l) (λ r. linked r x) (record { rows = refl; leaves = refl; notes = same_notes g l; chunks = refl; order = t.order; cleared = t.cleared; out = t.out; given = refl; granted = refl }) refl,
     )

@@ -1,6 +1,6 @@
 use Rattle.std.proofs.Common.{◌≡◌, ℕ, ◌<◌, refl, sym, ◌∙◌, subst, arith}
 use Rattle.list_machine.specs.Steps.{with_owned}
-use Rattle.list_words.specs.Store.{Row, row, with_chunk, lengthened, IsInNoChain}
+use Rattle.list_words.specs.Store.{Row, row, with_chunk, lengthened, IsNextChunk}
 use Rattle.list_words.specs.declared.leaf_lists.Phase.TheVariants.{Open}
 use Rattle.list_book.specs.Books.{book_row, with_taken_chunk, lengthened_row}
 use Rattle.list_table.specs.Ledgers.{leaf_of, notes_of}
@@ -9,7 +9,7 @@ use Rattle.list_table.specs.declared.views.Ledger.{Ledger}
 use Rattle.chunk_lists.specs.Keepers.{IsKeeper, KnownIn, store_of}
 use Rattle.list_table.specs.Tables.{OwnerValue}
 use Rattle.list_book.specs.Books.{BookValue}
-use Rattle.chunk_lists.proofs.Chunks.{free_chunk, in_no_chain}
+use Rattle.chunk_lists.proofs.Chunks.{free_chunk, next_chunk}
 use Rattle.chunk_lists.proofs.Ties.{phase_is, open_below, open_phase, row_is, tied_set, store_then, same_notes, lengthened_tied}
 use Rattle.list_table.specs.Ledgers.{Knows}
 use Rattle.chunk_lists.proofs.keeper.Keeper.extend_owned.Goals as goal
@@ -60,11 +60,9 @@ returns-clause-store c =
     let unshut = phase_is n m g b t l Open (subst (λ k. (row (store_of k) l).phase ≡ Open) (sym c.self.view_is) c.requires.takes) in
     let low = open_below n m g b t l unshut in
     let x = c.extend_owned-chunk.result in
-    let low_chunk = c.extend_owned-chunk.ensures.below in
-    subst (λ k. (y : ℕ) × (y < k.book.chunks) × IsInNoChain (store_of k) y × (store_of (record { name = c.adopt.new.seat.name; ledger = c.adopt.new.seat.ledger; book = c.extend_owned-chunk.new.self }) ≡ with_chunk (store_of k) l (lengthened (row (store_of k) l) y))) c.self.view_is (
+    subst (λ k. (y : ℕ) × IsNextChunk (store_of k) y × (store_of (record { name = c.adopt.new.seat.name; ledger = c.adopt.new.seat.ledger; book = c.extend_owned-chunk.new.self }) ≡ with_chunk (store_of k) l (lengthened (row (store_of k) l) y))) c.self.view_is (
       x,
-      low_chunk,
-      in_no_chain n m g b t i.seat.name x c.extend_owned-chunk.ensures.unused,
+      next_chunk n m g b t i.seat.name x c.extend_owned-chunk.ensures.below c.extend_owned-chunk.ensures.unused c.extend_owned-chunk.ensures.least,
       (λ j. store_of (record { name = c.adopt.ensures.name j; ledger = c.adopt.ensures.ledger j; book = c.extend_owned-chunk.ensures.book j }))
           ∙ store_then n m g b t i.seat.name (after_adopt g l x) (with_taken_chunk b l (lengthened_row (book_row b l) x)) l (lengthened_row (book_row b l) x) (with_owned (leaf_of g l) x) (notes_of g l) (λ r. lengthened r x) (record { rows = refl; leaves = refl; notes = same_notes g l; chunks = refl; order = t.order; cleared = t.cleared; out = t.out; given = refl; granted = refl }) refl,
     )

@@ -1,5 +1,5 @@
 use Rattle.std.proofs.Common.{◌≡◌, ℕ, ◌<◌, sym, ap, subst}
-use Rattle.list_words.specs.Store.{Store, row, with_chunk, lengthened, IsInNoChain}
+use Rattle.list_words.specs.Store.{Store, row, with_chunk, lengthened, IsNextChunk}
 use Rattle.chunk_lists.specs.Keepers.{KnownIn}
 use Rattle.chunk_lists.specs.Knives.{with_room, lists_of}
 use Rattle.list_machine.specs.declared.views.Fact.TheVariants.{Item}
@@ -11,8 +11,8 @@ pub returns-clause-store : goal.returns-clause-store
 returns-clause-store c =
     let e = c.extend_owned.ensures.store in
     let r = c.self.inside.room in
-    subst (λ k. (y : ℕ) × (y < (lists_of k).chunks) × IsInNoChain (lists_of k) y × (lists_of (record { keeper = c.extend_owned.new.self; grants = r.grants; items = r.items }) ≡ with_chunk (lists_of k) c.args.list (lengthened (row (lists_of k) c.args.list) y))) c.self.view_is
-    (e.0, e.1, e.2, ap (λ (s : Store). with_room s r.grants r.items) e.3)
+    subst (λ k. (y : ℕ) × IsNextChunk (lists_of k) y × (lists_of (record { keeper = c.extend_owned.new.self; grants = r.grants; items = r.items }) ≡ with_chunk (lists_of k) c.args.list (lengthened (row (lists_of k) c.args.list) y))) c.self.view_is
+    (e.0, record { below = e.1.below; unused = e.1.unused; least = e.1.least }, ap (λ (s : Store). with_room s r.grants r.items) e.2)
 
 pub returns-clause-known : goal.returns-clause-known
 returns-clause-known c h d x q =

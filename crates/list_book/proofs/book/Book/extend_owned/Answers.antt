@@ -5,7 +5,7 @@ use Rattle.list_words.specs.declared.leaf_lists.Phase.TheVariants.{Open}
 use Rattle.list_words.proofs.ChunkLaws.{len-without}
 use Rattle.list_book.specs.Books.{BookRow, BookValue, IsInNoRow, IsSized, book_row, lengthened_row, row_at, row_chain, with_taken_chunk}
 use Rattle.list_book.specs.BookKept.{IsSound, book_of}
-use Rattle.list_book.proofs.PlaceLaws.{free_nowhere, taken_view}
+use Rattle.list_book.proofs.PlaceLaws.{free_nowhere, nowhere_free, taken_view}
 use Rattle.list_book.proofs.RowLaws.{open_low, row_is, sized-lengthened, sized-set}
 use Rattle.list_book.proofs.SoundLaws.{sound-more}
 use Rattle.list_book.proofs.book.Book.extend_owned.Goals as goal
@@ -36,7 +36,8 @@ returns-clause-unused c =
 
 pub returns-clause-least : goal.returns-clause-least
 returns-clause-least c =
-    subst (λ (b : BookValue). (k : ℕ) → k < b.chunks → IsInNoRow b k → c.in-Some.chunk ≤ k) c.self.view_is (λ k small none. c.in-Some.ensures.least.least k (c.self.invariant.sound.unused k small none))
+    subst (λ (b : BookValue). (k : ℕ) → k < b.chunks → IsInNoRow b k → c.in-Some.chunk ≤ k) c.self.view_is (λ k small none.
+    c.in-Some.ensures.least.least k (nowhere_free c.self.inside.rows.items c.self.inside.pool c.self.inside.held c.self.inside.order.items c.self.inside.cleared c.self.inside.out.items c.self.inside.seats k c.self.invariant.sound small none))
 
 pub returns-clause-book : goal.returns-clause-book
 returns-clause-book c =

@@ -1,14 +1,14 @@
-use Rattle.std.proofs.Common.{◌≡◌, ℕ, ◌+◌, ◌-◌, ◌<◌, ◌≤◌, ◌⊎◌, inl, inr, Bool, true, false, List, length, set, get_or, Some, add-one, ap, sym, subst, ◌∙◌, arith, cond}
-use Rattle.std.specs.List.{slice_get, sum_by}
+use Rattle.std.proofs.Common.{◌≡◌, ℕ, ◌+◌, ◌-◌, ◌<◌, ◌≤◌, ◌⊎◌, inl, inr, Bool, true, false, List, ◌++◌, length, set, get_or, Some, add-one, ap, sym, subst, ◌∙◌, arith, cond}
+use Rattle.std.specs.List.{Contains, slice_get, sum_by}
 use Rattle.std.specs.FinSet as set_of
 use Rattle.std.proofs.lemmas.Grind.{get_or_default_zero}
 use Rattle.std.proofs.lemmas.Option.{slice_get-get_or, slice_get_within}
 use Rattle.std.proofs.lemmas.List.Sums.{get_or-le-sum_by}
 use Rattle.chunk_pool.specs.Numbers.{IsFree}
-use Rattle.chunk_pool.proofs.GiveLaws.{given_free, given_size}
+use Rattle.chunk_pool.proofs.GiveLaws.{given_free, given_size, given_twice}
 use Rattle.list_words.specs.Store.{Unreached, is_shut}
 use Rattle.list_words.specs.PlainRows.{PlainList, emptied_list, no_list}
-use Rattle.list_words.specs.Plain.{Plain, chunk_at, chunk_count, held_chunks, list_in, next_cleared, next_list}
+use Rattle.list_words.specs.Plain.{Plain, all_chunks, chunk_at, chunk_count, held_chunks, list_in, next_cleared, next_list}
 use Rattle.list_words.specs.PlainKept.{AreHomed, AreSummed, home_of, plain_of}
 use Rattle.list_words.specs.declared.leaf_lists.Phase.TheVariants.{Shut}
 use Rattle.list_words.proofs.ChunkLaws.{SamePlace, homed-emptied, one_place, summed-emptied}
@@ -196,9 +196,13 @@ invariant_of-self c =
       ]
       | inr back ↦ inr (true, back.0, owned_at back.0 q back.1)
     ] in
+    let chunks : c.claimed.result.now ++ c.owned.result.now ≡ all_chunks (list_in c.self.inside.rows.items l) =
+    ap (λ (cs : List ℕ). cs ++ c.owned.result.now) claimed ∙ ap (λ (cs : List ℕ). (list_in c.self.inside.rows.items l).claimed ++ cs) owned in
+    let lost : (q : ℕ) → IsFree c.give_all-2.new.self q ⊎ ((IsFree c.self.inside.pool q → ⊥) × (Contains (all_chunks (list_in c.self.inside.rows.items l)) q → ⊥)) = λ q.
+    subst (λ (cs : List ℕ). IsFree c.give_all-2.new.self q ⊎ ((IsFree c.self.inside.pool q → ⊥) × (Contains cs q → ⊥))) chunks (given_twice _ _ _ _ _ c.give_all.ensures.after c.give_all-2.ensures.after q) in
     record {
       homed = subst (λ (b : PlainList). AreHomed (set c.self.inside.rows.items l b) c.self.inside.homes.items c.give_all-2.new.self) (sym e)
-          (homed-emptied c.self.inside.rows.items c.self.inside.homes.items c.self.inside.pool c.give_all-2.new.self l c.self.invariant.homed low size given);
+          (homed-emptied c.self.inside.rows.items c.self.inside.homes.items c.self.inside.pool c.give_all-2.new.self l c.self.invariant.homed low size given lost);
       summed = subst (λ (b : PlainList). AreSummed (set c.self.inside.rows.items l b) c.give_all-2.new.self (c.self.inside.held - (length c.claimed-2.result.now + length c.owned-2.result.now)) (length c.self.inside.order.items)) (sym e)
           (subst (λ n. AreSummed (set c.self.inside.rows.items l (emptied_list (list_in c.self.inside.rows.items l))) c.give_all-2.new.self (c.self.inside.held - n) (length c.self.inside.order.items)) (sym count)
           (summed-emptied c.self.inside.rows.items c.self.inside.pool c.give_all-2.new.self c.self.inside.held (length c.self.inside.order.items) l c.self.invariant.summed low (ap is_shut phase) size more));

@@ -17,7 +17,9 @@ invariant_of-result c =
     let out : c.push_within.new.values.items ≡ 0 ∷ [] = c.push_within.ensures.items ∙ ap (λ (xs : List ℕ). xs ++ 0 ∷ []) c.in_ok-out.ensures.items in
     let none : length c.in_ok-order.order.items ≡ 0 = ap length c.in_ok-order.ensures.items in
     record {
-      homed = subst (λ (ls : List PlainList). AreHomed ls c.in_ok-homes.homes.items c.in_ok-pool.pool) (sym c.in_ok-rows.ensures) (homed-fresh c.args.lists c.in_ok-homes.homes.items c.in_ok-pool.pool size);
+      homed = subst (λ (ls : List PlainList). AreHomed ls c.in_ok-homes.homes.items c.in_ok-pool.pool) (sym c.in_ok-rows.ensures)
+          (subst (λ (p : Numbers). AreHomed (replicate c.args.lists no_list) c.in_ok-homes.homes.items p) (sym c.in_ok-pool.ensures)
+          (homed-fresh c.args.lists c.args.chunks c.in_ok-homes.homes.items (ap (λ (p : Numbers). p.size) (sym c.in_ok-pool.ensures) ∙ size)));
       summed = subst (λ (ls : List PlainList). AreSummed ls c.in_ok-pool.pool 0 (length c.in_ok-order.order.items)) (sym c.in_ok-rows.ensures)
           (subst (λ (p : Numbers). AreSummed (replicate c.args.lists no_list) p 0 (length c.in_ok-order.order.items)) (sym c.in_ok-pool.ensures)
           (subst (λ n. AreSummed (replicate c.args.lists no_list) (all_free c.args.chunks) 0 n) (sym none) (summed-fresh c.args.lists c.args.chunks)));

@@ -1,15 +1,15 @@
-use Rattle.std.proofs.Common.{◌≡◌, ◌+◌, ◌<◌, true, false, length, set, [], ◌∷◌, ap, sym, subst, ◌∙◌, arith}
+use Rattle.std.proofs.Common.{◌≡◌, ◌+◌, ◌<◌, true, false, length, set, [], ◌∷◌, ap, refl, sym, subst, ◌∙◌, arith}
 use Rattle.std.specs.FinSet as set_of
 use Rattle.std.proofs.lemmas.List.{length-append}
 use Rattle.chunk_pool.specs.Numbers.{Numbers, IsFree, without}
-use Rattle.list_words.specs.Store.{Row, IsInNoChain, Keeps, linked, is_shut, row, with_chunk}
+use Rattle.list_words.specs.Store.{Row, IsNextChunk, Keeps, linked, is_shut, row, with_chunk}
 use Rattle.list_words.specs.PlainRows.{PlainList, linked_list, row_of}
 use Rattle.list_words.specs.Plain.{Plain, Knows, StandsAt, chain, chunk_count, list_in, store_of, with_list}
 use Rattle.list_words.specs.PlainKept.{AreHomed, AreSummed, home_of, plain_of}
 use Rattle.list_words.specs.declared.leaf_lists.Phase.TheVariants.{Open}
 use Rattle.list_words.proofs.ChunkLaws.{homed-more, len-without, summed-more}
 use Rattle.list_words.proofs.PlainLaws.{ordered-set}
-use Rattle.list_words.proofs.StoreLaws.{known_changed, list_is, nowhere, open_low, open_phase, store_chunk, stands_linked}
+use Rattle.list_words.proofs.StoreLaws.{known_changed, list_is, next_chunk, open_low, open_phase, store_chunk, stands_linked}
 use Rattle.list_words.specs.Plain.{SameFiled}
 use Rattle.list_words.proofs.StoreLaws.{filed_changed}
 use Rattle.list_words.proofs.SlotLaws.{borne_same, slots_stay, stay_changed}
@@ -53,8 +53,8 @@ returns-clause-store c =
     let is : c.index_mut-row.result.now ≡ list_in c.self.inside.rows.items c.args.list = list_is c.self.inside.rows.items c.args.list c.index_mut-row.result.now low c.index_mut-row.ensures.value in
     let free : IsFree c.self.inside.pool c.in-Some.chunk = c.in-Some.ensures.least.free in (
       c.in-Some.chunk,
-      subst (λ (p : Plain). c.in-Some.chunk < p.chunks) c.self.view_is c.in-Some.ensures.below,
-      subst (λ p. IsInNoChain (store_of p) c.in-Some.chunk) c.self.view_is (nowhere (plain_of c.self.inside) c.self.inside.homes.items c.self.inside.pool c.in-Some.chunk c.self.invariant.homed free),
+      subst (λ p. IsNextChunk (store_of p) c.in-Some.chunk) c.self.view_is
+          (next_chunk (plain_of c.self.inside) c.self.inside.homes.items c.self.inside.pool c.in-Some.chunk refl c.self.invariant.homed c.in-Some.ensures.least c.in-Some.ensures.below),
       ap (λ (q : Numbers). store_of (record (plain_of c.self.inside) { lists = set c.self.inside.rows.items c.args.list c.link.new.self; chunks = q.size; free = set_of.len q.free })) c.in-Some.ensures.after
           ∙ store_chunk (plain_of c.self.inside) c.args.list c.index_mut-row.result.now c.link.new.self (λ (r : Row). linked r c.in-Some.chunk) (set_of.len (without c.self.inside.pool c.in-Some.chunk).free) is (ap row_of c.link.ensures) (len-without c.self.inside.pool c.in-Some.chunk free)
           ∙ ap (λ p. with_chunk (store_of p) c.args.list (linked (row (store_of p) c.args.list) c.in-Some.chunk)) c.self.view_is,

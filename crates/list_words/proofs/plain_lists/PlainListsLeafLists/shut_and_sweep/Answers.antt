@@ -79,7 +79,7 @@ invariant_of-self c =
     let second : length c.owned.result.now ≡ length L.owned = ap length (c.owned.ensures ∙ ap (λ (q : PlainList). q.owned) e) in omega arith in
     let longer : length c.push_within.new.values.items ≡ length c.self.inside.order.items + 1 = ap length c.push_within.ensures.items ∙ omega (arith, length-append c.self.inside.order.items (c.args.list ∷ [])) in
     record {
-      homed = homed-set c.self.inside.rows.items c.self.inside.homes.items c.self.inside.pool c.args.list c.sweep.new.self c.self.invariant.homed low (λ owned r k at. sym (ap (λ (cs : List ℕ). slice_get cs r) (ap (chain owned) e)) ∙ at);
+      homed = homed-set c.self.inside.rows.items c.self.inside.homes.items c.self.inside.pool c.args.list c.sweep.new.self c.self.invariant.homed low (λ owned. ap (chain owned) e);
       summed = subst (λ n. AreSummed (set c.self.inside.rows.items c.args.list c.sweep.new.self) c.self.inside.pool (c.self.inside.held + n) (length c.push_within.new.values.items)) (sym count)
           (subst (λ m. AreSummed (set c.self.inside.rows.items c.args.list c.sweep.new.self) c.self.inside.pool (c.self.inside.held + chunk_count L) m) (sym longer) sums);
       ordered = subst (λ (xs : List ℕ). AreOrdered (set c.self.inside.rows.items c.args.list c.sweep.new.self) xs c.self.inside.cleared c.push_within-2.new.values.items c.self.inside.seats) (sym c.push_within.ensures.items)

@@ -1,4 +1,4 @@
-ghost use Rattle.std.specs.Prelude.{◌≡◌, ◌+◌, ◌≤◌, ◌<◌, ◌^◌, [], ◌∷◌, ◌++◌, All, IfOk, OnErr, OnOk, Some, length, slice_get};
+ghost use Rattle.std.specs.Prelude.{◌≡◌, ◌+◌, ◌≤◌, ◌<◌, ◌^◌, [], ◌∷◌, ◌++◌, All, IfOk, OnErr, OnOk, Some, length, nat_lt, slice_get};
 ghost use Rattle.leaf_items.specs.Items.{before, born_of, granted, items_of, owned};
 ghost use Rattle.leaf_items.specs.Openings.{AreDealt, with_parts};
 
@@ -82,7 +82,8 @@ impl LeafItems {
     /// The items of a list, ascending.
     pub fn items(&self, list: u32) -> &[u32]
         requires { list < length self.now.born }
-        ensures { result.now ≡ items_of self.now list }
+        ensures items { result.now ≡ items_of self.now list }
+        ensures few { length result.now < 2 ^ 32 }
     {
         self.lists[list as usize].items()
     }
@@ -92,7 +93,12 @@ impl LeafItems {
         requires { list < length self.now.born }
         ensures { result ≡ before (items_of self.now list) bound }
     {
-        0
+        let count = self.items(list).partition_point(
+            |item: &u32| -> bool
+                ensures { result ≡ nat_lt item.now bound }
+            { *item < bound },
+        );
+        count as u32
     }
 
     /// How many items of a list were admitted before it was opened.

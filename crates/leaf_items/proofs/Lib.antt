@@ -1,0 +1,5 @@
+mod ItemLaws
+mod ListLaws
+mod MoveLaws
+mod OpenLaws
+mod PartLaws

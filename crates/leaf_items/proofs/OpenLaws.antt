@@ -112,10 +112,10 @@ births_opened lists list born parts low =
     ∙ ap (λ (s : List ℕ). births lists ++ s) (births_new born parts)
 
 module _ (leaf aims : List ℕ) (lists : List ListValue) (list : ℕ) (parts : List (List ℕ)) (low : list < length lists) where
-  old : List ListValue
+  abbrev pub old : List ListValue
   old = set lists list (emptied (list_at lists list))
 
-  new : List ListValue
+  abbrev pub new : List ListValue
   new = opened_lists (length leaf) parts
 
   known : (q : ℕ) → q < length lists → list_at (old ++ new) q ≡ list_at old q
@@ -179,3 +179,12 @@ picked_inside value parts leaf list aims items e f g h dealt =
     let R : List ℕ → Type 0 = λ x. ArePicked (items_from 0 leaf list) x parts.parts in
     let S : List (List ℕ) → Type 0 = λ x. ArePicked (items_from 0 leaf list) aims x in
     subst S (sym h) (subst R (sym g) (subst Q (sym f) (subst P (sym e) dealt.picked)))
+
+pub moved_same : (first first' list list' : ℕ) (leaf leaf' aims aims' : List ℕ) → first ≡ first' → list ≡ list' → leaf ≡ leaf' → aims ≡ aims'
+    → moved first list leaf aims ≡ moved first' list' leaf' aims'
+moved_same first first' list list' leaf leaf' aims aims' e f g h =
+    ap (λ (n : ℕ). moved n list leaf aims) e ∙ ap (λ (n : ℕ). moved first' n leaf aims) f ∙ ap (λ (s : List ℕ). moved first' list' s aims) g ∙ ap (moved first' list' leaf') h
+
+pub grown_same : (born born' : List ℕ) (n n' k k' : ℕ) → born ≡ born' → n ≡ n' → k ≡ k' → born ++ replicate n k ≡ born' ++ replicate n' k'
+grown_same born born' n n' k k' e f g =
+    ap (λ (s : List ℕ). s ++ replicate n k) e ∙ ap (λ (m : ℕ). born' ++ replicate m k) f ∙ ap (λ (m : ℕ). born' ++ replicate n' m) g

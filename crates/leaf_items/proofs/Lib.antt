@@ -3,3 +3,4 @@ mod ListLaws
 mod MoveLaws
 mod OpenLaws
 mod PartLaws
+mod ValueLaws

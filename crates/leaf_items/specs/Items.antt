@@ -35,6 +35,6 @@ owned value list = before (items_of value list) (born_of value list)
 abbrev pub granted : ItemsValue → ℕ → ℕ
 granted value list = count_by (λ item. nat_le (born_of value list) item) (items_of value list)
 
--- once items in these lists are admitted as well
-abbrev pub with_items : ItemsValue → List ℕ → ItemsValue
-with_items value lists = record value { leaf = value.leaf ++ lists }
+-- once the items that are ready are admitted
+abbrev pub with_ready : ItemsValue → ItemsValue
+with_ready value = record value { leaf = value.leaf ++ value.ready; ready = [] }

@@ -1,5 +1,5 @@
 ghost use Rattle.std.specs.Prelude.{◌≡◌, ◌+◌, ◌≤◌, ◌<◌, ◌^◌, [], ◌∷◌, ◌++◌, All, IfOk, OnErr, OnOk, Some, length, nat_lt, slice_get};
-ghost use Rattle.leaf_items.specs.Items.{before, born_of, granted, items_of, owned};
+ghost use Rattle.leaf_items.specs.Items.{before, born_of, granted, items_of, owned, with_ready};
 ghost use Rattle.leaf_items.specs.Openings.{AreDealt, with_parts};
 
 use crate::item_list::ItemList;
@@ -163,7 +163,7 @@ impl LeafItems {
 
     /// Admits an item in each of the lists that are ready, in their order. It takes no memory.
     pub fn admit_ready(&mut self)
-        ensures { self.new ≡ record self.old { leaf = self.old.leaf ++ self.old.ready; ready = [] } }
+        ensures { self.new ≡ with_ready self.old }
     {
         admit_all(&mut self.leaf, &mut self.lists, &self.ready);
         self.ready.clear();

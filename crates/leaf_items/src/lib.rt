@@ -11,5 +11,9 @@ mod tests;
 mod within;
 
 pub use items::LeafItems;
-pub use laws::leaf_items_go_to_threads;
+pub use laws::{
+    admissions_append_items, dealt_items_go_where_they_aim, items_are_those_in_a_list,
+    leaf_items_go_to_threads, new_lists_own_their_items, openings_move_items,
+    owned_and_granted_are_all,
+};
 pub use parts::Parts;

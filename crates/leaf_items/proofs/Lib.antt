@@ -1,0 +1,6 @@
+mod ItemLaws
+mod ListLaws
+mod MoveLaws
+mod OpenLaws
+mod PartLaws
+mod ValueLaws

@@ -1,0 +1,4 @@
+pub mod Items
+pub mod Kept
+pub mod Lists
+pub mod Openings

@@ -42,7 +42,8 @@ module _ (lists chunks : ℕ) (g : Ledger) (b : BookValue) (t : AreTied lists ch
       none l (in_row (book_row b l) (leaf_of g l) c one.claimed one.owned (subst (λ (e : Leaf). HasChunk e c) (sym is) has))
 
   -- the least chunk that is in no row is the next for a chain
-  pub next_chunk : (name : List ℕ) (c : ℕ) → c < b.chunks → IsInNoRow b c → ((d : ℕ) → d < b.chunks → IsInNoRow b d → c ≤ d) → IsNextChunk (store_of (record { name = name; ledger = g; book = b })) c
+  pub next_chunk : (name : List ℕ) (c : ℕ) → c < b.chunks → IsInNoRow b c → ((d : ℕ) → d < b.chunks → IsInNoRow b d → c ≤ d)
+      → IsNextChunk (store_of (record { name = name; ledger = g; book = b })) c
   next_chunk name c low none least = record {
     below = low;
     unused = λ l has. none l (subst (λ (r : Row). Contains (chunks_of r) c) (row_is lists chunks g b t l) has);

@@ -18,7 +18,11 @@ const SECOND: Grant = Grant { list: 1, n: 5 };
 
 /// Two open lists without chunks, with room for what the two grants want, and four chunks.
 fn two_open(alloc: Global) -> Result<PlainLists, AllocError>
-    ensures { IfOk result (λ lists. store_of lists ≡ record (store_of (fresh_plain 2 4)) { rows = opened (roomier no_row 2 0) ∷ opened (roomier no_row 1 0) ∷ []; grants_room = 2; items_room = 305 }) }
+    ensures { IfOk result (λ lists. store_of lists ≡ record (store_of (fresh_plain 2 4)) {
+      rows = opened (roomier no_row 2 0) ∷ opened (roomier no_row 1 0) ∷ [];
+      grants_room = 2;
+      items_room = 305;
+    }) }
 {
     let mut lists = PlainLists::new(alloc, 2, 4)?;
     lists.reserve(0, 2, 0)?;
@@ -31,7 +35,11 @@ fn two_open(alloc: Global) -> Result<PlainLists, AllocError>
 
 /// Admits the filer of the two grants.
 fn admit_two(lists: &mut PlainLists) -> PlainFiler
-    requires { store_of lists.old ≡ record (store_of (fresh_plain 2 4)) { rows = opened (roomier no_row 2 0) ∷ opened (roomier no_row 1 0) ∷ []; grants_room = 2; items_room = 305 } }
+    requires { store_of lists.old ≡ record (store_of (fresh_plain 2 4)) {
+      rows = opened (roomier no_row 2 0) ∷ opened (roomier no_row 1 0) ∷ [];
+      grants_room = 2;
+      items_room = 305;
+    } }
     ensures { length (store_of lists.new).rows ≡ 2 }
 {
     admit_slots(lists, &[0, 0], &[FIRST, SECOND])

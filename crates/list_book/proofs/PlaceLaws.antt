@@ -53,7 +53,8 @@ free_nowhere rows pool held order cleared out seats c kept free l inside =
     nowhere p kept.homes pool c kept.homed free l (subst (λ (cs : List ℕ). Contains cs c) (sym (ap chunks_of (row-map lists l) ∙ ap all_chunks (bare-row rows l))) inside)
 
 -- and a chunk that stands nowhere is free
-pub nowhere_free : (rows : List BookRow) (pool : Numbers) (held : ℕ) (order : List ℕ) (cleared : ℕ) (out : List ℕ) (seats c : ℕ) → IsSound rows pool held order cleared out seats → c < pool.size → IsNowhere rows c → IsFree pool c
+pub nowhere_free : (rows : List BookRow) (pool : Numbers) (held : ℕ) (order : List ℕ) (cleared : ℕ) (out : List ℕ) (seats c : ℕ)
+    → IsSound rows pool held order cleared out seats → c < pool.size → IsNowhere rows c → IsFree pool c
 nowhere_free rows pool held order cleared out seats c kept small none =
     kept.homed.unplaced c small (λ owned l r at.
     none l (subst (λ (cs : List ℕ). Contains cs c) (ap all_chunks (bare-row rows l)) (contained owned (list_in (map bare_list rows) l) r c at)))

@@ -61,12 +61,14 @@ chunk_at-more lists l c b owned low more rest o m r q at = elim (chunk_at-set li
 ]
 
 -- it stands at the end of that chain, and the others where they stood
-chunk_at-end : (lists : List PlainList) (l c : ℕ) (b : PlainList) (owned : Bool) → l < length lists → chain owned b ≡ chain owned (list_in lists l) ++ c ∷ [] → chunk_at (set lists l b) owned l (length (chain owned (list_in lists l))) ≡ Some c
+chunk_at-end : (lists : List PlainList) (l c : ℕ) (b : PlainList) (owned : Bool) → l < length lists
+    → chain owned b ≡ chain owned (list_in lists l) ++ c ∷ [] → chunk_at (set lists l b) owned l (length (chain owned (list_in lists l))) ≡ Some c
 chunk_at-end lists l c b owned low more =
     chunk_at-set_same lists l b owned l (length (chain owned (list_in lists l))) low refl
     ∙ ap (λ (cs : List ℕ). slice_get cs (length (chain owned (list_in lists l)))) more ∙ slice_get-last (chain owned (list_in lists l)) c
 
-chunk_at-still : (lists : List PlainList) (l c : ℕ) (b : PlainList) (owned : Bool) → l < length lists → chain owned b ≡ chain owned (list_in lists l) ++ c ∷ [] → chain (not owned) b ≡ chain (not owned) (list_in lists l)
+chunk_at-still : (lists : List PlainList) (l c : ℕ) (b : PlainList) (owned : Bool) → l < length lists
+    → chain owned b ≡ chain owned (list_in lists l) ++ c ∷ [] → chain (not owned) b ≡ chain (not owned) (list_in lists l)
     → (o : Bool) (m r q : ℕ) → chunk_at lists o m r ≡ Some q → chunk_at (set lists l b) o m r ≡ Some q
 chunk_at-still lists l c b owned low more rest o m r q at = elim (cases_eq m l) [
   | inr other ↦ chunk_at-set_other lists l b o m r other ∙ at
@@ -75,7 +77,8 @@ chunk_at-still lists l c b owned low more rest o m r q at = elim (cases_eq m l) 
       ∙ elim (same_or_not o owned) [
         | inl same ↦
             ap (λ w. slice_get (chain w b) r) same ∙ ap (λ (cs : List ℕ). slice_get cs r) more
-            ∙ slice_get-more (chain owned (list_in lists l)) (c ∷ []) r q (ap (λ w. chunk_at lists w l r) (sym same) ∙ ap (λ k. chunk_at lists o k r) (sym here) ∙ at)
+            ∙ slice_get-more (chain owned (list_in lists l)) (c ∷ []) r q
+                (ap (λ w. chunk_at lists w l r) (sym same) ∙ ap (λ k. chunk_at lists o k r) (sym here) ∙ at)
         | inr differs ↦
             ap (λ w. slice_get (chain w b) r) differs ∙ ap (λ (cs : List ℕ). slice_get cs r) rest
             ∙ ap (λ w. chunk_at lists w l r) (sym differs) ∙ ap (λ k. chunk_at lists o k r) (sym here) ∙ at
@@ -104,7 +107,8 @@ homed-more lists homes pool l c b owned kept low free small more rest =
       ];
       unplaced = λ q low_chunk none.
           free_still pool c q
-          (λ e. none owned l (length (chain owned (list_in lists l))) (subst (λ k. chunk_at (set lists l b) owned l (length (chain owned (list_in lists l))) ≡ Some k) (sym e) (chunk_at-end lists l c b owned low more)))
+          (λ e. none owned l (length (chain owned (list_in lists l)))
+              (subst (λ k. chunk_at (set lists l b) owned l (length (chain owned (list_in lists l))) ≡ Some k) (sym e) (chunk_at-end lists l c b owned low more)))
           (kept.unplaced q low_chunk (λ o m r at. none o m r (chunk_at-still lists l c b owned low more rest o m r q at)));
       size = kept.size ∙ sym (length_same homes c h);
     }
@@ -184,7 +188,8 @@ contained false p r q at = Contains-append_left p.claimed p.owned q (contains_at
 
 pub homed-emptied : (lists : List PlainList) (homes : List Home) (pool after : Numbers) (l : ℕ) → AreHomed lists homes pool → l < length lists → after.size ≡ pool.size
     → ((q : ℕ) → IsFree after q → IsFree pool q ⊎ ((w : Bool) × (i : ℕ) × (chunk_at lists w l i ≡ Some q)))
-    → ((q : ℕ) → IsFree after q ⊎ ((IsFree pool q → ⊥) × (Contains (all_chunks (list_in lists l)) q → ⊥))) → AreHomed (set lists l (emptied_list (list_in lists l))) homes after
+    → ((q : ℕ) → IsFree after q ⊎ ((IsFree pool q → ⊥) × (Contains (all_chunks (list_in lists l)) q → ⊥)))
+    → AreHomed (set lists l (emptied_list (list_in lists l))) homes after
 homed-emptied lists homes pool after l kept low size given lost =
     let was : (o : Bool) (m r q : ℕ) → chunk_at (set lists l (emptied_list (list_in lists l))) o m r ≡ Some q → (m ≢ l) × (chunk_at lists o m r ≡ Some q) = λ o m r q at.
     elim (chunk_at-set lists l (emptied_list (list_in lists l)) o m r q low at) [

@@ -58,12 +58,15 @@ chunk_at-set lists l b owned m r c low at = elim (cases_eq m l) [
 ]
 
 -- the chunks of other lists stay
-pub chunk_at-set_other : (lists : List PlainList) (l : ℕ) (b : PlainList) (owned : Bool) (m r : ℕ) → m ≢ l → chunk_at (set lists l b) owned m r ≡ chunk_at lists owned m r
+pub chunk_at-set_other : (lists : List PlainList) (l : ℕ) (b : PlainList) (owned : Bool) (m r : ℕ) → m ≢ l
+    → chunk_at (set lists l b) owned m r ≡ chunk_at lists owned m r
 chunk_at-set_other lists l b owned m r other = ap (λ (p : PlainList). slice_get (chain owned p) r) (list_in-set_other lists l m b other)
 
 -- and this one's are those of its new row
-pub chunk_at-set_same : (lists : List PlainList) (l : ℕ) (b : PlainList) (owned : Bool) (m r : ℕ) → l < length lists → m ≡ l → chunk_at (set lists l b) owned m r ≡ slice_get (chain owned b) r
-chunk_at-set_same lists l b owned m r low same = ap (λ (p : PlainList). slice_get (chain owned p) r) (ap (list_in (set lists l b)) same ∙ list_in-set_same lists l b low)
+pub chunk_at-set_same : (lists : List PlainList) (l : ℕ) (b : PlainList) (owned : Bool) (m r : ℕ) → l < length lists → m ≡ l
+    → chunk_at (set lists l b) owned m r ≡ slice_get (chain owned b) r
+chunk_at-set_same lists l b owned m r low same =
+    ap (λ (p : PlainList). slice_get (chain owned p) r) (ap (list_in (set lists l b)) same ∙ list_in-set_same lists l b low)
 
 -- a list with the same chains
 pub homed-set : (lists : List PlainList) (homes : List Home) (pool : Numbers) (l : ℕ) (b : PlainList) → AreHomed lists homes pool → l < length lists

@@ -239,7 +239,8 @@ nowhere p homes pool c kept free l inside =
     ]
 
 -- the chunk that the pool gives is the next for a chain
-pub next_chunk : (p : Plain) (homes : List Home) (pool : Numbers) (c : ℕ) → p.chunks ≡ pool.size → AreHomed p.lists homes pool → IsLeastFree pool c → c < pool.size → IsNextChunk (store_of p) c
+pub next_chunk : (p : Plain) (homes : List Home) (pool : Numbers) (c : ℕ) → p.chunks ≡ pool.size → AreHomed p.lists homes pool → IsLeastFree pool c
+    → c < pool.size → IsNextChunk (store_of p) c
 next_chunk p homes pool c size kept is low = record {
   below = subst (λ n. c < n) (sym size) low;
   unused = nowhere p homes pool c kept is.free;

@@ -22,9 +22,12 @@ fresh_is_unshut e = cc
 
 pub invariant_of-self : goal.invariant_of-self
 invariant_of-self c =
-    let low : c.args.list < length c.self.inside.rows.items = within_rows (plain_of c.self.inside) c.args.self.now c.args.list c.self.view_is c.requires.below in
-    let is : c.index_mut-row.result.now ≡ list_in c.self.inside.rows.items c.args.list = list_is c.self.inside.rows.items c.args.list c.index_mut-row.result.now low c.index_mut-row.ensures.value in
-    let was : (list_in c.self.inside.rows.items c.args.list).phase ≡ Fresh = fresh_phase (plain_of c.self.inside) c.args.self.now c.args.list c.self.view_is c.requires.new in
+    let low : c.args.list < length c.self.inside.rows.items =
+    within_rows (plain_of c.self.inside) c.args.self.now c.args.list c.self.view_is c.requires.below in
+    let is : c.index_mut-row.result.now ≡ list_in c.self.inside.rows.items c.args.list =
+    list_is c.self.inside.rows.items c.args.list c.index_mut-row.result.now low c.index_mut-row.ensures.value in
+    let was : (list_in c.self.inside.rows.items c.args.list).phase ≡ Fresh =
+    fresh_phase (plain_of c.self.inside) c.args.self.now c.args.list c.self.view_is c.requires.new in
     let same : SameShape c.open.new.self (list_in c.self.inside.rows.items c.args.list) = record {
       chains = λ owned.
           ap (chain owned) c.open.ensures.opened
@@ -34,8 +37,10 @@ invariant_of-self c =
     } in
     record {
       homed = homed-same c.self.inside.rows.items c.self.inside.homes.items c.self.inside.pool c.args.list c.open.new.self c.self.invariant.homed low same;
-      summed = summed-same c.self.inside.rows.items c.self.inside.pool c.self.inside.held (length c.self.inside.order.items) c.args.list c.open.new.self c.self.invariant.summed low same;
-      ordered = ordered-same c.self.inside.rows.items c.self.inside.order.items c.self.inside.cleared c.self.inside.out.items c.self.inside.seats c.args.list c.open.new.self c.self.invariant.ordered low same;
+      summed = summed-same c.self.inside.rows.items c.self.inside.pool c.self.inside.held
+          (length c.self.inside.order.items) c.args.list c.open.new.self c.self.invariant.summed low same;
+      ordered = ordered-same c.self.inside.rows.items c.self.inside.order.items c.self.inside.cleared c.self.inside.out.items c.self.inside.seats
+          c.args.list c.open.new.self c.self.invariant.ordered low same;
       order_room = c.self.invariant.order_room;
       out_room = c.self.invariant.out_room;
       grants_room = c.self.invariant.grants_room;
@@ -49,29 +54,37 @@ invariant_of-self c =
 
 pub returns-clause-store : goal.returns-clause-store
 returns-clause-store c =
-    let low : c.args.list < length c.self.inside.rows.items = within_rows (plain_of c.self.inside) c.args.self.now c.args.list c.self.view_is c.requires.below in
-    let is : c.index_mut-row.result.now ≡ list_in c.self.inside.rows.items c.args.list = list_is c.self.inside.rows.items c.args.list c.index_mut-row.result.now low c.index_mut-row.ensures.value in
+    let low : c.args.list < length c.self.inside.rows.items =
+    within_rows (plain_of c.self.inside) c.args.self.now c.args.list c.self.view_is c.requires.below in
+    let is : c.index_mut-row.result.now ≡ list_in c.self.inside.rows.items c.args.list =
+    list_is c.self.inside.rows.items c.args.list c.index_mut-row.result.now low c.index_mut-row.ensures.value in
     store_changed (plain_of c.self.inside) c.args.list c.index_mut-row.result.now c.open.new.self opened is (ap row_of c.open.ensures.opened)
     ∙ ap (λ p. with_row (store_of p) c.args.list (opened (row (store_of p) c.args.list))) c.self.view_is
 
 pub returns-clause-known : goal.returns-clause-known
 returns-clause-known c =
-    let low : c.args.list < length c.self.inside.rows.items = within_rows (plain_of c.self.inside) c.args.self.now c.args.list c.self.view_is c.requires.below in
-    let is : c.index_mut-row.result.now ≡ list_in c.self.inside.rows.items c.args.list = list_is c.self.inside.rows.items c.args.list c.index_mut-row.result.now low c.index_mut-row.ensures.value in
+    let low : c.args.list < length c.self.inside.rows.items =
+    within_rows (plain_of c.self.inside) c.args.self.now c.args.list c.self.view_is c.requires.below in
+    let is : c.index_mut-row.result.now ≡ list_in c.self.inside.rows.items c.args.list =
+    list_is c.self.inside.rows.items c.args.list c.index_mut-row.result.now low c.index_mut-row.ensures.value in
     subst (λ p. Keeps (Knows p) (Knows (with_list (plain_of c.self.inside) c.args.list c.open.new.self))) c.self.view_is
     (known_changed (plain_of c.self.inside) c.args.list c.index_mut-row.result.now c.open.new.self low is (λ owned x d i at. absurd (nothing_stands owned c.index_mut-row.result.now x d i c.open.ensures.empty.0 c.open.ensures.empty.1 at)))
 
 pub returns-clause-same_filed : goal.returns-clause-same_filed
 returns-clause-same_filed c =
-    let low : c.args.list < length c.self.inside.rows.items = within_rows (plain_of c.self.inside) c.args.self.now c.args.list c.self.view_is c.requires.below in
-    let is : c.index_mut-row.result.now ≡ list_in c.self.inside.rows.items c.args.list = list_is c.self.inside.rows.items c.args.list c.index_mut-row.result.now low c.index_mut-row.ensures.value in
+    let low : c.args.list < length c.self.inside.rows.items =
+    within_rows (plain_of c.self.inside) c.args.self.now c.args.list c.self.view_is c.requires.below in
+    let is : c.index_mut-row.result.now ≡ list_in c.self.inside.rows.items c.args.list =
+    list_is c.self.inside.rows.items c.args.list c.index_mut-row.result.now low c.index_mut-row.ensures.value in
     subst (λ p. SameFiled p (with_list (plain_of c.self.inside) c.args.list c.open.new.self)) c.self.view_is
     (filed_changed (plain_of c.self.inside) c.args.list c.index_mut-row.result.now c.open.new.self low is (ap (λ (q : PlainList). q.filed) c.open.ensures.opened ∙ sym c.open.ensures.empty.2))
 
 pub returns-clause-stays : goal.returns-clause-stays
 returns-clause-stays c =
-    let low : c.args.list < length c.self.inside.rows.items = within_rows (plain_of c.self.inside) c.args.self.now c.args.list c.self.view_is c.requires.below in
-    let is : c.index_mut-row.result.now ≡ list_in c.self.inside.rows.items c.args.list = list_is c.self.inside.rows.items c.args.list c.index_mut-row.result.now low c.index_mut-row.ensures.value in
+    let low : c.args.list < length c.self.inside.rows.items =
+    within_rows (plain_of c.self.inside) c.args.self.now c.args.list c.self.view_is c.requires.below in
+    let is : c.index_mut-row.result.now ≡ list_in c.self.inside.rows.items c.args.list =
+    list_is c.self.inside.rows.items c.args.list c.index_mut-row.result.now low c.index_mut-row.ensures.value in
     subst (λ (p : Plain). StayFiled p.lists (set c.self.inside.rows.items c.args.list c.open.new.self)) c.self.view_is
     (stay_changed c.self.inside.rows.items c.args.list c.index_mut-row.result.now c.open.new.self low is
     (λ owned x d i at. absurd (nothing_stands owned c.index_mut-row.result.now x d i c.open.ensures.empty.0 c.open.ensures.empty.1 at))

@@ -75,16 +75,16 @@ move_more first list leaf items aims now k aim item are same low so aim_is item_
     let aim_low : k < length aims = omega (arith, low, same) in
     let taken : length (take k aims) ≡ k = length-take-le k aims (omega (arith, aim_low)) in
     let at : get_or (items_from 0 leaf list) (length (take k aims)) 0 ≡ 0 + item =
-        ap (λ (i : ℕ). get_or (items_from 0 leaf list) i 0) taken ∙ ap (λ (s : List ℕ). get_or s k 0) (sym are) ∙ sym item_is ∙ zero_more item in
+    ap (λ (i : ℕ). get_or (items_from 0 leaf list) i 0) taken ∙ ap (λ (s : List ℕ). get_or s k 0) (sym are) ∙ sym item_is ∙ zero_more item in
     ap (λ (s : List ℕ). set s item (first + aim)) so
     ∙ move_step first list 0 leaf (take k aims) aim item (omega (arith, taken, low, ap length are)) at
     ∙ ap (moved first list leaf) (ap (λ (n : ℕ). take k aims ++ n ∷ []) aim_is ∙ sym (take_more aims k 0 aim_low)) where
-  zero_more : (i : ℕ) → i ≡ 0 + i
-  zero_more i = omega arith
+      zero_more : (i : ℕ) → i ≡ 0 + i
+      zero_more i = omega arith
 
 -- each item is one that there is
 pub item_low : (leaf items : List ℕ) (list k item : ℕ) → items ≡ items_from 0 leaf list → k < length items → item ≡ get_or items k 0 → item < length leaf
 item_low leaf items list k item are low item_is =
     let within : (0 ≤ get_or (items_from 0 leaf list) k 0) × (get_or (items_from 0 leaf list) k 0 < 0 + length leaf) =
-        All-get_or (λ (x : ℕ). (0 ≤ x) × (x < 0 + length leaf)) (items_from 0 leaf list) k 0 (omega (arith, low, ap length are)) (items_within 0 leaf list) in
+    All-get_or (λ (x : ℕ). (0 ≤ x) × (x < 0 + length leaf)) (items_from 0 leaf list) k 0 (omega (arith, low, ap length are)) (items_within 0 leaf list) in
     omega (arith, within.1, item_is, ap (λ (s : List ℕ). get_or s k 0) are)

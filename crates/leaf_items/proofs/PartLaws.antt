@@ -33,9 +33,9 @@ more_so_far items aims parts count k aim item known new low same so aim_is item_
     let aim_low : k < length aims = omega (arith, low, same) in
     let there : aim < length parts = omega (arith, within, so.many) in
     let dealt : (part : ℕ) → picked part (take (k + 1) aims) (take (k + 1) items) ≡ picked part (take k aims) (take k items) ++ cond (nat_eq aim part) (item ∷ []) [] =
-        λ part. ap (λ (s : List ℕ). picked part s (take (k + 1) items)) (take_more aims k 0 aim_low ∙ ap (λ (n : ℕ). take k aims ++ n ∷ []) (sym aim_is))
-        ∙ ap (λ (s : List ℕ). picked part (take k aims ++ aim ∷ []) s) (take_more items k 0 low ∙ ap (λ (n : ℕ). take k items ++ n ∷ []) (sym item_is))
-        ∙ picked_push part (take k aims) (take k items) aim item (length-take-le k aims (omega (arith, aim_low)) ∙ sym (length-take-le k items (omega (arith, low)))) in
+    λ part. ap (λ (s : List ℕ). picked part s (take (k + 1) items)) (take_more aims k 0 aim_low ∙ ap (λ (n : ℕ). take k aims ++ n ∷ []) (sym aim_is))
+    ∙ ap (λ (s : List ℕ). picked part (take k aims ++ aim ∷ []) s) (take_more items k 0 low ∙ ap (λ (n : ℕ). take k items ++ n ∷ []) (sym item_is))
+    ∙ picked_push part (take k aims) (take k items) aim item (length-take-le k aims (omega (arith, aim_low)) ∙ sym (length-take-le k items (omega (arith, low)))) in
     record {
       many = length-set parts aim new ∙ so.many;
       each = λ part part_low. elim (cases_eq part aim) [

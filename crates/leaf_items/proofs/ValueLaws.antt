@@ -188,7 +188,7 @@ goes_cons false n l w k (suc m) I M N a aim aims f g high at aims_at =
 high_at : (n : ℕ) (leaf : List ℕ) (list j x : ℕ) → slice_get (items_from n leaf list) j ≡ Some x → n ≤ x
 high_at n leaf list j x at =
     let within : (n ≤ get_or (items_from n leaf list) j x) × (get_or (items_from n leaf list) j x < n + length leaf) =
-        All-get_or (λ (y : ℕ). (n ≤ y) × (y < n + length leaf)) (items_from n leaf list) j x (slice_get_within (items_from n leaf list) j x at) (items_within n leaf list) in
+    All-get_or (λ (y : ℕ). (n ≤ y) × (y < n + length leaf)) (items_from n leaf list) j x (slice_get_within (items_from n leaf list) j x at) (items_within n leaf list) in
     omega (arith, within.0, get_or_from_slice_get (items_from n leaf list) j x x at)
 
 pub goes : (first list n : ℕ) (leaf aims : List ℕ) (k m aim : ℕ) → slice_get (items_from n leaf list) k ≡ Some (n + m) → slice_get aims k ≡ Some aim

@@ -12,8 +12,8 @@ append-requires c =
     let at : ℕ = get_or ready k 0 in
     let lists : List ListValue = c.loop-list.lists.items in
     let are : AreLists c.loop-list.leaf.items (at ∷ drop (k + 1) ready) lists =
-        lists_same c.loop-list.leaf.items c.loop-list.leaf.items (drop k ready) (at ∷ drop (k + 1) ready) lists lists refl
-        (sym (drop_more ready k 0 c.loop-list-test.true)) refl c.loop-list.invariant.lists in
+    lists_same c.loop-list.leaf.items c.loop-list.leaf.items (drop k ready) (at ∷ drop (k + 1) ready) lists lists refl
+    (sym (drop_more ready k 0 c.loop-list-test.true)) refl c.loop-list.invariant.lists in
     let low : at < length lists = next_low c.loop-list.leaf.items (drop (k + 1) ready) lists at are in
     wanted_next c.loop-list.leaf.items (drop (k + 1) ready) lists at c.index_mut-known.result.now c.index_mut-known.result.now low
     (known_is lists at c.index_mut-known.result.now low c.index_mut-known.ensures.value) are
@@ -26,8 +26,8 @@ loop-list-preserved c =
     let leaf : List ℕ = c.loop-list.leaf.items in
     let lists : List ListValue = c.loop-list.lists.items in
     let are : AreLists leaf (at ∷ drop (k + 1) ready) lists =
-        lists_same leaf leaf (drop k ready) (at ∷ drop (k + 1) ready) lists lists refl
-        (sym (drop_more ready k 0 c.loop-list-test.true)) refl c.loop-list.invariant.lists in
+    lists_same leaf leaf (drop k ready) (at ∷ drop (k + 1) ready) lists lists refl
+    (sym (drop_more ready k 0 c.loop-list-test.true)) refl c.loop-list.invariant.lists in
     let low : at < length lists = next_low leaf (drop (k + 1) ready) lists at are in
     let known : c.index_mut-known.result.now ≡ list_at lists at = known_is lists at c.index_mut-known.result.now low c.index_mut-known.ensures.value in
     let number : c.len-item.result ≡ length leaf = omega (arith, c.len-item.ensures, c.loop-list.leaf.ok.0) in

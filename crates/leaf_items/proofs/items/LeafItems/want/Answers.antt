@@ -10,8 +10,8 @@ want-requires c =
     let lists : List ListValue = c.self.inside.lists.items in
     let low : c.args.list < length lists = omega (arith, c.requires, ap (λ (v : ItemsValue). length v.born) c.self.view_is, length-map lists (λ (v : ListValue). v.born)) in
     let few : c.index_mut-known.result.now.wanted ≤ length c.self.inside.ready.items =
-        wanted_few c.self.inside.leaf.items c.self.inside.ready.items lists c.args.list c.index_mut-known.result.now low
-        (known_is lists c.args.list c.index_mut-known.result.now low c.index_mut-known.ensures.value) c.self.invariant.lists in
+    wanted_few c.self.inside.leaf.items c.self.inside.ready.items lists c.args.list c.index_mut-known.result.now low
+    (known_is lists c.args.list c.index_mut-known.result.now low c.index_mut-known.ensures.value) c.self.invariant.lists in
     omega (arith, few, c.self.inside.ready.ok.0, c.if-len-count.false)
 
 pub invariant_of-self-2 : goal.invariant_of-self-2

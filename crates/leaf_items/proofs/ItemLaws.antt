@@ -12,7 +12,8 @@ pub cond_append : (b : Bool) (x : ℕ) (A B C : List ℕ) → A ≡ B ++ C → c
 cond_append true x A B C e = ap (λ (s : List ℕ). x ∷ s) e
 cond_append false x A B C e = e
 
-pub items_from-append : (first : ℕ) (leaf more : List ℕ) (list : ℕ) → items_from first (leaf ++ more) list ≡ items_from first leaf list ++ items_from (first + length leaf) more list
+pub items_from-append : (first : ℕ) (leaf more : List ℕ) (list : ℕ)
+    → items_from first (leaf ++ more) list ≡ items_from first leaf list ++ items_from (first + length leaf) more list
 items_from-append first [] more list =
     let none : first ≡ first + 0 = omega arith in
     ap (λ (n : ℕ). items_from n more list) none

@@ -18,7 +18,8 @@ cond_length false v l n A B e f = omega (arith, f)
 pub length-moved : (first list : ℕ) (leaf aims : List ℕ) → length (moved first list leaf aims) ≡ length leaf
 length-moved first list [] aims = refl
 length-moved first list (l ∷ leaf) [] = refl
-length-moved first list (l ∷ leaf) (aim ∷ aims) = cond_length (nat_eq l list) (first + aim) l (length leaf) (moved first list leaf aims) (moved first list leaf (aim ∷ aims))
+length-moved first list (l ∷ leaf) (aim ∷ aims) = cond_length (nat_eq l list) (first + aim) l (length leaf) (moved first list leaf aims)
+    (moved first list leaf (aim ∷ aims))
     (length-moved first list leaf aims) (length-moved first list leaf (aim ∷ aims))
 
 -- the items behind the first one
@@ -68,7 +69,8 @@ move_step first list n (l ∷ leaf) (a ∷ aims) aim m low at =
     (λ j few is. move_step first list (n + 1) leaf (a ∷ aims) aim j few is) low at
 
 -- as a loop over items and aims moves them
-pub move_more : (first list : ℕ) (leaf items aims now : List ℕ) (k aim item : ℕ) → items ≡ items_from 0 leaf list → length aims ≡ length items → k < length items
+pub move_more : (first list : ℕ) (leaf items aims now : List ℕ) (k aim item : ℕ) → items ≡ items_from 0 leaf list → length aims ≡ length items
+    → k < length items
     → now ≡ moved first list leaf (take k aims) → aim ≡ get_or aims k 0 → item ≡ get_or items k 0
     → set now item (first + aim) ≡ moved first list leaf (take (k + 1) aims)
 move_more first list leaf items aims now k aim item are same low so aim_is item_is =

@@ -12,7 +12,8 @@ pub cond_append : (b : Bool) (x : ℕ) (A B C : List ℕ) → A ≡ B ++ C → c
 cond_append true x A B C e = ap (λ (s : List ℕ). x ∷ s) e
 cond_append false x A B C e = e
 
-pub items_from-append : (first : ℕ) (leaf more : List ℕ) (list : ℕ) → items_from first (leaf ++ more) list ≡ items_from first leaf list ++ items_from (first + length leaf) more list
+pub items_from-append : (first : ℕ) (leaf more : List ℕ) (list : ℕ)
+    → items_from first (leaf ++ more) list ≡ items_from first leaf list ++ items_from (first + length leaf) more list
 items_from-append first [] more list =
     let none : first ≡ first + 0 = omega arith in
     ap (λ (n : ℕ). items_from n more list) none
@@ -91,12 +92,12 @@ pub count_split : (p : ℕ → Bool) (xs : List ℕ) (n : ℕ) → n ≤ length 
 count_split p [] n few yes' no' = omega (arith, few)
 count_split p (x ∷ xs) zero few yes' no' =
     let rest : count_by p xs ≡ 0 = count_split p xs 0 (omega arith) (λ k d low. absurd (omega (arith, low)))
-        (λ k d high low. no' (suc k) d (omega arith) (omega (arith, low))) in
+    (λ k d high low. no' (suc k) d (omega arith) (omega (arith, low))) in
     let here : one (p x) ≡ 0 = ap one (no' 0 0 (omega arith) (omega arith)) in
     omega (arith, sum_by-cons (λ (y : ℕ). cond (p y) 1 0) x xs, rest, here)
 count_split p (x ∷ xs) (suc n) few yes' no' =
     let rest : count_by p xs ≡ n = count_split p xs n (omega (arith, few)) (λ k d low. yes' (suc k) d (omega (arith, low)))
-        (λ k d high low. no' (suc k) d (omega (arith, high)) (omega (arith, low))) in
+    (λ k d high low. no' (suc k) d (omega (arith, high)) (omega (arith, low))) in
     let here : one (p x) ≡ 1 = ap one (yes' 0 0 (omega arith)) in
     omega (arith, sum_by-cons (λ (y : ℕ). cond (p y) 1 0) x xs, rest, here)
 

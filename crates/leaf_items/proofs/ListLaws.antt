@@ -63,7 +63,8 @@ module _ (leaf leaf' ready ready' : List ℕ) (lists : List ListValue) (at : ℕ
       }
 
 -- births stay where a list keeps its own
-pub births_set : (lists : List ListValue) (at : ℕ) (new : ListValue) → at < length lists → new.born ≡ (list_at lists at).born → births (set lists at new) ≡ births lists
+pub births_set : (lists : List ListValue) (at : ℕ) (new : ListValue) → at < length lists → new.born ≡ (list_at lists at).born
+    → births (set lists at new) ≡ births lists
 births_set lists at new low same =
     map-set (λ (v : ListValue). v.born) lists at new
     ∙ ap (set (births lists) at) (same ∙ sym (get_or-map (λ (v : ListValue). v.born) lists at no_list 0 low))
@@ -80,8 +81,14 @@ module _ (leaf rest : List ℕ) (lists : List ListValue) (at : ℕ) (known new :
   pub want_step : AreLists leaf rest lists → new ≡ record known { wanted = known.wanted + 1 } → AreLists leaf (rest ++ at ∷ []) (set lists at new)
   want_step are e = lists_step leaf leaf rest (rest ++ at ∷ []) lists at new low are record {
     has = ap (λ (v : ListValue). v.items) (e ∙ ap (λ (v : ListValue). record v { wanted = v.wanted + 1 }) is) ∙ are.have at low;
-    wants = omega (arith, ap (λ (v : ListValue). v.wanted) e, ap (λ (v : ListValue). v.wanted) is, are.want at low,
-        sum_by_push (λ (l : ℕ). cond (nat_eq l at) 1 0) rest at, same_counts at);
+    wants = omega (
+      arith,
+      ap (λ (v : ListValue). v.wanted) e,
+      ap (λ (v : ListValue). v.wanted) is,
+      are.want at low,
+      sum_by_push (λ (l : ℕ). cond (nat_eq l at) 1 0) rest at,
+      same_counts at,
+    );
     other_items = λ l other. refl;
     other_wants = λ l other. omega (arith, sum_by_push (λ (k : ℕ). cond (nat_eq k l) 1 0) rest at, other_counts l at other);
     placed' = are.placed;
@@ -98,8 +105,14 @@ module _ (leaf rest : List ℕ) (lists : List ListValue) (at : ℕ) (known new :
   pub unwant_step : AreLists leaf (rest ++ at ∷ []) lists → new ≡ record known { wanted = known.wanted - 1 } → AreLists leaf rest (set lists at new)
   unwant_step are e = lists_step leaf leaf (rest ++ at ∷ []) rest lists at new low are record {
     has = ap (λ (v : ListValue). v.items) (e ∙ ap (λ (v : ListValue). record v { wanted = v.wanted - 1 }) is) ∙ are.have at low;
-    wants = omega (arith, ap (λ (v : ListValue). v.wanted) e, ap (λ (v : ListValue). v.wanted) is, are.want at low,
-        sum_by_push (λ (l : ℕ). cond (nat_eq l at) 1 0) rest at, same_counts at);
+    wants = omega (
+      arith,
+      ap (λ (v : ListValue). v.wanted) e,
+      ap (λ (v : ListValue). v.wanted) is,
+      are.want at low,
+      sum_by_push (λ (l : ℕ). cond (nat_eq l at) 1 0) rest at,
+      same_counts at,
+    );
     other_items = λ l other. refl;
     other_wants = λ l other. omega (arith, sum_by_push (λ (k : ℕ). cond (nat_eq k l) 1 0) rest at, other_counts l at other);
     placed' = are.placed;
@@ -119,15 +132,24 @@ module _ (leaf rest : List ℕ) (lists : List ListValue) (at : ℕ) (known new :
   pub admit_step : AreLists leaf (at ∷ rest) lists → new ≡ appended known (length leaf) → AreLists (leaf ++ at ∷ []) rest (set lists at new)
   admit_step are e =
       let more : new.items ≡ items_from 0 leaf at ++ length leaf ∷ [] =
-          ap (λ (v : ListValue). v.items) e ∙ ap (λ (v : ListValue). v.items ++ length leaf ∷ []) is ∙ ap (λ (s : List ℕ). s ++ length leaf ∷ []) (are.have at low) in
+      ap (λ (v : ListValue). v.items) e ∙ ap (λ (v : ListValue). v.items ++ length leaf ∷ []) is
+      ∙ ap (λ (s : List ℕ). s ++ length leaf ∷ []) (are.have at low) in
       let number : 0 + length leaf ≡ length leaf = omega arith in
       lists_step leaf (leaf ++ at ∷ []) (at ∷ rest) rest lists at new low are record {
-        has = more ∙ sym (items_from-append 0 leaf (at ∷ []) at ∙ ap (λ (b : Bool). items_from 0 leaf at ++ cond b ((0 + length leaf) ∷ []) []) (eq-eqb at at refl)
+        has = more
+            ∙ sym (items_from-append 0 leaf (at ∷ []) at ∙ ap (λ (b : Bool). items_from 0 leaf at ++ cond b ((0 + length leaf) ∷ []) []) (eq-eqb at at refl)
             ∙ ap (λ (n : ℕ). items_from 0 leaf at ++ n ∷ []) number);
-        wants = omega (arith, ap (λ (v : ListValue). v.wanted) e, ap (λ (v : ListValue). v.wanted) is, are.want at low,
-            sum_by-cons (λ (l : ℕ). cond (nat_eq l at) 1 0) at rest, same_counts at);
+        wants = omega (
+          arith,
+          ap (λ (v : ListValue). v.wanted) e,
+          ap (λ (v : ListValue). v.wanted) is,
+          are.want at low,
+          sum_by-cons (λ (l : ℕ). cond (nat_eq l at) 1 0) at rest,
+          same_counts at,
+        );
         other_items = λ l other. items_from-append 0 leaf (at ∷ []) l
-            ∙ ap (λ (b : Bool). items_from 0 leaf l ++ cond b ((0 + length leaf) ∷ []) []) (ne_eqb at l (λ same. other (sym same))) ∙ append-nil (items_from 0 leaf l);
+            ∙ ap (λ (b : Bool). items_from 0 leaf l ++ cond b ((0 + length leaf) ∷ []) []) (ne_eqb at l (λ same. other (sym same)))
+            ∙ append-nil (items_from 0 leaf l);
         other_wants = λ l other. omega (arith, sum_by-cons (λ (k : ℕ). cond (nat_eq k l) 1 0) at rest, other_counts l at other);
         placed' = All-push (λ (l : ℕ). l < length lists) leaf at are.placed low;
         aimed' = All-tail (λ (l : ℕ). l < length lists) at rest are.aimed;
@@ -136,7 +158,8 @@ module _ (leaf rest : List ℕ) (lists : List ListValue) (at : ℕ) (known new :
       }
 
 -- the same lists, otherwise written
-pub lists_same : (leaf leaf' ready ready' : List ℕ) (lists lists' : List ListValue) → leaf' ≡ leaf → ready' ≡ ready → lists' ≡ lists → AreLists leaf ready lists → AreLists leaf' ready' lists'
+pub lists_same : (leaf leaf' ready ready' : List ℕ) (lists lists' : List ListValue) → leaf' ≡ leaf → ready' ≡ ready → lists' ≡ lists
+    → AreLists leaf ready lists → AreLists leaf' ready' lists'
 lists_same leaf leaf' ready ready' lists lists' e f g are =
     let P : List ℕ → Type 0 = λ x. AreLists x ready lists in
     let Q : List ℕ → Type 0 = λ x. AreLists leaf' x lists in
@@ -151,7 +174,8 @@ value_same leaf leaf' born born' ready ready' rooms rooms' e f g h =
     ∙ ap (λ (x : List ℕ). value_with leaf' born' x rooms) g ∙ ap (λ (x : ℕ). value_with leaf' born' ready' x) h
 
 -- how many are wanted of a list: no more than are ready
-pub wanted_few : (leaf ready : List ℕ) (lists : List ListValue) (at : ℕ) (known : ListValue) → at < length lists → known ≡ list_at lists at → AreLists leaf ready lists → known.wanted ≤ length ready
+pub wanted_few : (leaf ready : List ℕ) (lists : List ListValue) (at : ℕ) (known : ListValue) → at < length lists → known ≡ list_at lists at
+    → AreLists leaf ready lists → known.wanted ≤ length ready
 wanted_few leaf ready lists at known low is are =
     omega (arith, ap (λ (v : ListValue). v.wanted) is, are.want at low, count_by-le-length (λ (l : ℕ). nat_eq l at) ready)
 
@@ -162,7 +186,7 @@ births_at lists at low = get_or-map (λ (v : ListValue). v.born) lists at no_lis
 pub births_early : (leaf ready : List ℕ) (lists : List ListValue) → AreLists leaf ready lists → All (λ b. b ≤ length leaf) (births lists)
 births_early leaf ready lists are = All-from_get_or (λ (b : ℕ). b ≤ length leaf) (births lists) 0
     (λ i low. let within : i < length lists = omega (arith, low, length-map lists (λ (v : ListValue). v.born)) in
-      omega (arith, births_at lists i within, are.early i within))
+    omega (arith, births_at lists i within, are.early i within))
 
 -- a list that is ready is one that there is
 pub last_low : (leaf rest : List ℕ) (lists : List ListValue) (at : ℕ) → AreLists leaf (rest ++ at ∷ []) lists → at < length lists

@@ -18,7 +18,8 @@ cond_length false v l n A B e f = omega (arith, f)
 pub length-moved : (first list : ℕ) (leaf aims : List ℕ) → length (moved first list leaf aims) ≡ length leaf
 length-moved first list [] aims = refl
 length-moved first list (l ∷ leaf) [] = refl
-length-moved first list (l ∷ leaf) (aim ∷ aims) = cond_length (nat_eq l list) (first + aim) l (length leaf) (moved first list leaf aims) (moved first list leaf (aim ∷ aims))
+length-moved first list (l ∷ leaf) (aim ∷ aims) = cond_length (nat_eq l list) (first + aim) l (length leaf) (moved first list leaf aims)
+    (moved first list leaf (aim ∷ aims))
     (length-moved first list leaf aims) (length-moved first list leaf (aim ∷ aims))
 
 -- the items behind the first one
@@ -68,23 +69,24 @@ move_step first list n (l ∷ leaf) (a ∷ aims) aim m low at =
     (λ j few is. move_step first list (n + 1) leaf (a ∷ aims) aim j few is) low at
 
 -- as a loop over items and aims moves them
-pub move_more : (first list : ℕ) (leaf items aims now : List ℕ) (k aim item : ℕ) → items ≡ items_from 0 leaf list → length aims ≡ length items → k < length items
+pub move_more : (first list : ℕ) (leaf items aims now : List ℕ) (k aim item : ℕ) → items ≡ items_from 0 leaf list → length aims ≡ length items
+    → k < length items
     → now ≡ moved first list leaf (take k aims) → aim ≡ get_or aims k 0 → item ≡ get_or items k 0
     → set now item (first + aim) ≡ moved first list leaf (take (k + 1) aims)
 move_more first list leaf items aims now k aim item are same low so aim_is item_is =
     let aim_low : k < length aims = omega (arith, low, same) in
     let taken : length (take k aims) ≡ k = length-take-le k aims (omega (arith, aim_low)) in
     let at : get_or (items_from 0 leaf list) (length (take k aims)) 0 ≡ 0 + item =
-        ap (λ (i : ℕ). get_or (items_from 0 leaf list) i 0) taken ∙ ap (λ (s : List ℕ). get_or s k 0) (sym are) ∙ sym item_is ∙ zero_more item in
+    ap (λ (i : ℕ). get_or (items_from 0 leaf list) i 0) taken ∙ ap (λ (s : List ℕ). get_or s k 0) (sym are) ∙ sym item_is ∙ zero_more item in
     ap (λ (s : List ℕ). set s item (first + aim)) so
     ∙ move_step first list 0 leaf (take k aims) aim item (omega (arith, taken, low, ap length are)) at
     ∙ ap (moved first list leaf) (ap (λ (n : ℕ). take k aims ++ n ∷ []) aim_is ∙ sym (take_more aims k 0 aim_low)) where
-  zero_more : (i : ℕ) → i ≡ 0 + i
-  zero_more i = omega arith
+      zero_more : (i : ℕ) → i ≡ 0 + i
+      zero_more i = omega arith
 
 -- each item is one that there is
 pub item_low : (leaf items : List ℕ) (list k item : ℕ) → items ≡ items_from 0 leaf list → k < length items → item ≡ get_or items k 0 → item < length leaf
 item_low leaf items list k item are low item_is =
     let within : (0 ≤ get_or (items_from 0 leaf list) k 0) × (get_or (items_from 0 leaf list) k 0 < 0 + length leaf) =
-        All-get_or (λ (x : ℕ). (0 ≤ x) × (x < 0 + length leaf)) (items_from 0 leaf list) k 0 (omega (arith, low, ap length are)) (items_within 0 leaf list) in
+    All-get_or (λ (x : ℕ). (0 ≤ x) × (x < 0 + length leaf)) (items_from 0 leaf list) k 0 (omega (arith, low, ap length are)) (items_within 0 leaf list) in
     omega (arith, within.1, item_is, ap (λ (s : List ℕ). get_or s k 0) are)

@@ -34,7 +34,8 @@ new_cons false n q l v a j aims M N I here other e f =
     ap (λ (t : Bool). cond t (n ∷ items_from (n + 1) N q) (items_from (n + 1) N q)) other ∙ f
 
 -- a new list has the items that aim at it
-pub moved_new : (first list n j : ℕ) (leaf aims : List ℕ) → All (λ l. l < first) leaf → items_from n (moved first list leaf aims) (first + j) ≡ picked j aims (items_from n leaf list)
+pub moved_new : (first list n j : ℕ) (leaf aims : List ℕ) → All (λ l. l < first) leaf
+    → items_from n (moved first list leaf aims) (first + j) ≡ picked j aims (items_from n leaf list)
 moved_new first list n j [] [] placed = refl
 moved_new first list n j [] (a ∷ aims) placed = refl
 moved_new first list n j (l ∷ leaf) [] placed = none_past n first (l ∷ leaf) (first + j) placed (omega arith)
@@ -70,7 +71,8 @@ none_cons false n list l v k M N I here is e f same =
     ap (λ (t : Bool). cond t (n ∷ items_from (n + 1) N list) (items_from (n + 1) N list)) is ∙ f same
 
 -- the list has no items any more
-pub moved_none : (first list n : ℕ) (leaf aims : List ℕ) → list < first → length aims ≡ length (items_from n leaf list) → items_from n (moved first list leaf aims) list ≡ []
+pub moved_none : (first list n : ℕ) (leaf aims : List ℕ) → list < first → length aims ≡ length (items_from n leaf list)
+    → items_from n (moved first list leaf aims) list ≡ []
 moved_none first list n [] aims low same = refl
 moved_none first list n (l ∷ leaf) [] low same = nil_from_length (items_from n (l ∷ leaf) list) (sym same)
 moved_none first list n (l ∷ leaf) (a ∷ aims) low same =
@@ -83,7 +85,8 @@ all_cons P true v l M N here there m n = All-cons P v M here m
 all_cons P false v l M N here there m n = All-cons P l N there n
 
 -- each item is in a list that there is then
-pub moved_placed : (first list count : ℕ) (leaf aims : List ℕ) → All (λ l. l < first) leaf → All (λ a. a < count) aims → All (λ l. l < first + count) (moved first list leaf aims)
+pub moved_placed : (first list count : ℕ) (leaf aims : List ℕ) → All (λ l. l < first) leaf → All (λ a. a < count) aims
+    → All (λ l. l < first + count) (moved first list leaf aims)
 moved_placed first list count [] aims placed within = All-nil (λ (l : ℕ). l < first + count)
 moved_placed first list count (l ∷ leaf) [] placed within =
     All-weaker (λ (k : ℕ). k < first) (λ (k : ℕ). k < first + count) (λ k low. omega (arith, low)) (l ∷ leaf) placed
@@ -127,7 +130,8 @@ module _ (leaf aims : List ℕ) (lists : List ListValue) (list : ℕ) (parts : L
   there : (q : ℕ) → q < length lists → q ≢ list → list_at (old ++ new) q ≡ list_at lists q
   there q q_low other = known q q_low ∙ get_or-set_other lists list q (emptied (list_at lists list)) no_list other
 
-  behind : (q : ℕ) → length lists ≤ q → q < length (old ++ new) → list_at (old ++ new) q ≡ record { born = length leaf; wanted = 0; items = get_or parts (q - length lists) [] }
+  behind : (q : ℕ) → length lists ≤ q → q < length (old ++ new)
+      → list_at (old ++ new) q ≡ record { born = length leaf; wanted = 0; items = get_or parts (q - length lists) [] }
   behind q past within =
       let same : length old ≡ length lists = length-set lists list (emptied (list_at lists list)) in
       let many : length new ≡ length parts = length-map parts (λ (items : List ℕ). record { born = length leaf; wanted = 0; items = items }) in
@@ -143,8 +147,10 @@ module _ (leaf aims : List ℕ) (lists : List ListValue) (list : ℕ) (parts : L
       record {
         have = λ q within. elim (cases_lt q (length lists)) [
           | inl q_low ↦ elim (cases_eq q list) [
-            | inl is ↦ ap (λ (v : ListValue). v.items) (here q q_low is) ∙ sym (moved_none (length lists) list 0 leaf aims low dealt.many) ∙ ap (items_from 0 (moved (length lists) list leaf aims)) (sym is)
-            | inr other ↦ ap (λ (v : ListValue). v.items) (there q q_low other) ∙ are.have q q_low ∙ sym (moved_other (length lists) list 0 q leaf aims q_low other)
+            | inl is ↦ ap (λ (v : ListValue). v.items) (here q q_low is) ∙ sym (moved_none (length lists) list 0 leaf aims low dealt.many)
+                ∙ ap (items_from 0 (moved (length lists) list leaf aims)) (sym is)
+            | inr other ↦ ap (λ (v : ListValue). v.items) (there q q_low other) ∙ are.have q q_low
+                ∙ sym (moved_other (length lists) list 0 q leaf aims q_low other)
           ]
           | inr past ↦
               let place : q - length lists < length parts = omega (arith, past, within, count) in
@@ -159,7 +165,8 @@ module _ (leaf aims : List ℕ) (lists : List ListValue) (list : ℕ) (parts : L
           ]
           | inr past ↦ ap (λ (v : ListValue). v.wanted) (behind q past within)
         ];
-        placed = subst (λ (k : ℕ). All (λ l. l < k) (moved (length lists) list leaf aims)) (sym count) (moved_placed (length lists) list (length parts) leaf aims are.placed dealt.within);
+        placed = subst (λ (k : ℕ). All (λ l. l < k) (moved (length lists) list leaf aims)) (sym count)
+            (moved_placed (length lists) list (length parts) leaf aims are.placed dealt.within);
         aimed = All-nil (λ (l : ℕ). l < length (old ++ new));
         early = λ q within. elim (cases_lt q (length lists)) [
           | inl q_low ↦ elim (cases_eq q list) [
@@ -183,7 +190,8 @@ picked_inside value parts leaf list aims items e f g h dealt =
 pub moved_same : (first first' list list' : ℕ) (leaf leaf' aims aims' : List ℕ) → first ≡ first' → list ≡ list' → leaf ≡ leaf' → aims ≡ aims'
     → moved first list leaf aims ≡ moved first' list' leaf' aims'
 moved_same first first' list list' leaf leaf' aims aims' e f g h =
-    ap (λ (n : ℕ). moved n list leaf aims) e ∙ ap (λ (n : ℕ). moved first' n leaf aims) f ∙ ap (λ (s : List ℕ). moved first' list' s aims) g ∙ ap (moved first' list' leaf') h
+    ap (λ (n : ℕ). moved n list leaf aims) e ∙ ap (λ (n : ℕ). moved first' n leaf aims) f ∙ ap (λ (s : List ℕ). moved first' list' s aims) g
+    ∙ ap (moved first' list' leaf') h
 
 pub grown_same : (born born' : List ℕ) (n n' k k' : ℕ) → born ≡ born' → n ≡ n' → k ≡ k' → born ++ replicate n k ≡ born' ++ replicate n' k'
 grown_same born born' n n' k k' e f g =

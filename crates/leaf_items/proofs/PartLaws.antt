@@ -32,10 +32,12 @@ pub more_so_far : (items aims : List ℕ) (parts : List (List ℕ)) (count k aim
 more_so_far items aims parts count k aim item known new low same so aim_is item_is within known_is e =
     let aim_low : k < length aims = omega (arith, low, same) in
     let there : aim < length parts = omega (arith, within, so.many) in
-    let dealt : (part : ℕ) → picked part (take (k + 1) aims) (take (k + 1) items) ≡ picked part (take k aims) (take k items) ++ cond (nat_eq aim part) (item ∷ []) [] =
-        λ part. ap (λ (s : List ℕ). picked part s (take (k + 1) items)) (take_more aims k 0 aim_low ∙ ap (λ (n : ℕ). take k aims ++ n ∷ []) (sym aim_is))
-        ∙ ap (λ (s : List ℕ). picked part (take k aims ++ aim ∷ []) s) (take_more items k 0 low ∙ ap (λ (n : ℕ). take k items ++ n ∷ []) (sym item_is))
-        ∙ picked_push part (take k aims) (take k items) aim item (length-take-le k aims (omega (arith, aim_low)) ∙ sym (length-take-le k items (omega (arith, low)))) in
+    let dealt : (part : ℕ) → picked part (take (k + 1) aims) (take (k + 1) items) ≡ picked part (take k aims) (take k items) ++ cond (nat_eq aim part)
+    (item ∷ []) [] =
+    λ part. ap (λ (s : List ℕ). picked part s (take (k + 1) items)) (take_more aims k 0 aim_low ∙ ap (λ (n : ℕ). take k aims ++ n ∷ []) (sym aim_is))
+    ∙ ap (λ (s : List ℕ). picked part (take k aims ++ aim ∷ []) s) (take_more items k 0 low ∙ ap (λ (n : ℕ). take k items ++ n ∷ []) (sym item_is))
+    ∙ picked_push part (take k aims) (take k items) aim item
+    (length-take-le k aims (omega (arith, aim_low)) ∙ sym (length-take-le k items (omega (arith, low)))) in
     record {
       many = length-set parts aim new ∙ so.many;
       each = λ part part_low. elim (cases_eq part aim) [
@@ -44,7 +46,8 @@ more_so_far items aims parts count k aim item known new low same so aim_is item_
             ∙ ap (λ (b : Bool). picked aim (take k aims) (take k items) ++ cond b (item ∷ []) []) (sym (eq-eqb aim aim refl))
             ∙ sym (dealt aim) ∙ ap (λ (p : ℕ). picked p (take (k + 1) aims) (take (k + 1) items)) (sym is)
         | inr other ↦ get_or-set_other parts aim part new [] other ∙ so.each part part_low ∙ sym (append-nil (picked part (take k aims) (take k items)))
-            ∙ ap (λ (b : Bool). picked part (take k aims) (take k items) ++ cond b (item ∷ []) []) (sym (ne_eqb aim part (λ same'. other (sym same')))) ∙ sym (dealt part)
+            ∙ ap (λ (b : Bool). picked part (take k aims) (take k items) ++ cond b (item ∷ []) []) (sym (ne_eqb aim part (λ same'. other (sym same'))))
+            ∙ sym (dealt part)
       ];
     }
 

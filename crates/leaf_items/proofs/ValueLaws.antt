@@ -80,7 +80,8 @@ count_cond p true x A passes =
 count_cond p false x A passes = omega arith
 
 -- items from a number on are granted by then
-later_granted : (n bound : ℕ) (more : List ℕ) (list : ℕ) → bound ≤ n → count_by (λ x. nat_le bound x) (items_from n more list) ≡ count_by (λ l. nat_eq l list) more
+later_granted : (n bound : ℕ) (more : List ℕ) (list : ℕ) → bound ≤ n
+    → count_by (λ x. nat_le bound x) (items_from n more list) ≡ count_by (λ l. nat_eq l list) more
 later_granted n bound [] list low = omega arith
 later_granted n bound (l ∷ more) list low =
     count_cond (λ (x : ℕ). nat_le bound x) (nat_eq l list) n (items_from (n + 1) more list) (le-leb bound n low)
@@ -128,17 +129,20 @@ admitted_items value list =
 pub born_same : (value : ItemsValue) (parts : PartsValue) (list : ℕ) → list < length value.born → born_of (with_parts value parts) list ≡ born_of value list
 born_same value parts list low = get_or_append_left value.born (replicate (length parts.parts) (length value.leaf)) 0 list low
 
-pub born_new : (value : ItemsValue) (parts : PartsValue) (part : ℕ) → part < length parts.parts → born_of (with_parts value parts) (length value.born + part) ≡ length value.leaf
+pub born_new : (value : ItemsValue) (parts : PartsValue) (part : ℕ) → part < length parts.parts
+    → born_of (with_parts value parts) (length value.born + part) ≡ length value.leaf
 born_new value parts part low =
     let place : length value.born + part - length value.born ≡ part = omega arith in
     get_or-append_right value.born (replicate (length parts.parts) (length value.leaf)) (length value.born) (length value.born + part) 0 refl (omega arith)
     ∙ ap (λ (k : ℕ). get_or (replicate (length parts.parts) (length value.leaf)) k 0) place
     ∙ get_or-replicate (length parts.parts) part (length value.leaf) 0 low
 
-pub items_same : (value : ItemsValue) (parts : PartsValue) (list : ℕ) → list < length value.born → list ≢ parts.list → items_of (with_parts value parts) list ≡ items_of value list
+pub items_same : (value : ItemsValue) (parts : PartsValue) (list : ℕ) → list < length value.born → list ≢ parts.list
+    → items_of (with_parts value parts) list ≡ items_of value list
 items_same value parts list low other = moved_other (length value.born) parts.list 0 list value.leaf parts.aims low other
 
-pub granted_new : (value : ItemsValue) (parts : PartsValue) (part : ℕ) → part < length parts.parts → granted (with_parts value parts) (length value.born + part) ≡ 0
+pub granted_new : (value : ItemsValue) (parts : PartsValue) (part : ℕ) → part < length parts.parts
+    → granted (with_parts value parts) (length value.born + part) ≡ 0
 granted_new value parts part low =
     let list : ℕ = length value.born + part in
     let leaf : List ℕ = moved (length value.born) parts.list value.leaf parts.aims in
@@ -149,12 +153,14 @@ granted_new value parts part low =
     ap (λ (b : ℕ). count_by (λ (x : ℕ). nat_le b x) (items_from 0 leaf list)) (born_new value parts part low)
     ∙ count_none (λ (x : ℕ). nat_le (length value.leaf) x) (items_from 0 leaf list) (All-weaker Q P below (items_from 0 leaf list) (items_within 0 leaf list))
 
-pub owned_same : (value : ItemsValue) (parts : PartsValue) (list : ℕ) → list < length value.born → list ≢ parts.list → owned (with_parts value parts) list ≡ owned value list
+pub owned_same : (value : ItemsValue) (parts : PartsValue) (list : ℕ) → list < length value.born → list ≢ parts.list
+    → owned (with_parts value parts) list ≡ owned value list
 owned_same value parts list low other =
     ap (λ (b : ℕ). before (items_of (with_parts value parts) list) b) (born_same value parts list low)
     ∙ ap (λ (s : List ℕ). before s (born_of value list)) (items_same value parts list low other)
 
-pub granted_same : (value : ItemsValue) (parts : PartsValue) (list : ℕ) → list < length value.born → list ≢ parts.list → granted (with_parts value parts) list ≡ granted value list
+pub granted_same : (value : ItemsValue) (parts : PartsValue) (list : ℕ) → list < length value.born → list ≢ parts.list
+    → granted (with_parts value parts) list ≡ granted value list
 granted_same value parts list low other =
     ap (λ (b : ℕ). count_by (λ (x : ℕ). nat_le b x) (items_of (with_parts value parts) list)) (born_same value parts list low)
     ∙ ap (λ (s : List ℕ). count_by (λ (x : ℕ). nat_le (born_of value list) x) s) (items_same value parts list low other)
@@ -188,7 +194,8 @@ goes_cons false n l w k (suc m) I M N a aim aims f g high at aims_at =
 high_at : (n : ℕ) (leaf : List ℕ) (list j x : ℕ) → slice_get (items_from n leaf list) j ≡ Some x → n ≤ x
 high_at n leaf list j x at =
     let within : (n ≤ get_or (items_from n leaf list) j x) × (get_or (items_from n leaf list) j x < n + length leaf) =
-        All-get_or (λ (y : ℕ). (n ≤ y) × (y < n + length leaf)) (items_from n leaf list) j x (slice_get_within (items_from n leaf list) j x at) (items_within n leaf list) in
+    All-get_or (λ (y : ℕ). (n ≤ y) × (y < n + length leaf)) (items_from n leaf list) j x (slice_get_within (items_from n leaf list) j x at)
+    (items_within n leaf list) in
     omega (arith, within.0, get_or_from_slice_get (items_from n leaf list) j x x at)
 
 pub goes : (first list n : ℕ) (leaf aims : List ℕ) (k m aim : ℕ) → slice_get (items_from n leaf list) k ≡ Some (n + m) → slice_get aims k ≡ Some aim

@@ -171,7 +171,13 @@ impl LeafItems {
 
     /// Deals the items of a list to so many new lists: `aims` has for each of its items, ascending, the new list to which it
     /// goes, counted from the first of them. Nothing changes until the lists are opened.
-    pub fn deal(&self, alloc: Global, list: u32, aims: &[u32], count: u32) -> Result<Parts, AllocError>
+    pub fn deal(
+        &self,
+        alloc: Global,
+        list: u32,
+        aims: &[u32],
+        count: u32,
+    ) -> Result<Parts, AllocError>
         requires opened { list < length self.now.born }
         requires many { length aims.now ≡ length (items_of self.now list) }
         requires within { All (λ aim. aim < count) aims.now }

@@ -20,7 +20,8 @@ pub fn owned_and_granted_are_all()
 
 /// A law: an admission appends its items to their lists, to which they are granted.
 pub fn admissions_append_items()
-    ensures items { (value : ItemsValue) (list : ℕ) → items_of (with_ready value) list ≡ items_of value list ++ items_from (length value.leaf) value.ready list }
+    ensures items { (value : ItemsValue) (list : ℕ) → items_of (with_ready value) list
+        ≡ items_of value list ++ items_from (length value.leaf) value.ready list }
     ensures owned { (value : ItemsValue) (list : ℕ) → All (λ born. born ≤ length value.leaf) value.born → owned (with_ready value) list ≡ owned value list }
     ensures granted { (value : ItemsValue) (list : ℕ) → All (λ born. born ≤ length value.leaf) value.born
         → granted (with_ready value) list ≡ granted value list + count_by (λ l. l == list) value.ready }

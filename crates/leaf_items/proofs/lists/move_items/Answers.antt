@@ -14,7 +14,8 @@ index_mut-requires c =
 pub loop-k-preserved : goal.loop-k-preserved
 loop-k-preserved c = record {
   so_far = move_more c.args.first c.args.list c.args.leaf.now.items c.args.items.now c.args.aims.now c.loop-k.leaf.items c.loop-k.k
-      (get_or c.args.aims.now c.loop-k.k 0) (get_or c.args.items.now c.loop-k.k 0) c.requires.items c.requires.many c.loop-k-test.true c.loop-k.invariant.so_far refl refl;
+      (get_or c.args.aims.now c.loop-k.k 0)
+      (get_or c.args.items.now c.loop-k.k 0) c.requires.items c.requires.many c.loop-k-test.true c.loop-k.invariant.so_far refl refl;
   len = c.loop-k.invariant.len;
   capacity = c.loop-k.invariant.capacity;
 }

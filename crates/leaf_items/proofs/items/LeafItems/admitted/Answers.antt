@@ -9,5 +9,7 @@ use Rattle.leaf_items.proofs.items.LeafItems.admitted.Goals as goal
 pub returns-clause-early : goal.returns-clause-early
 returns-clause-early c =
     let P : List ℕ → Type 0 = λ born. All (λ (b : ℕ). b ≤ length c.self.inside.leaf.items) born in
-    let early : P c.args.self.now.born = subst P (ap (λ (v : ItemsValue). v.born) c.self.view_is) (births_early c.self.inside.leaf.items c.self.inside.ready.items c.self.inside.lists.items c.self.invariant.lists) in
+    let early : P c.args.self.now.born =
+    subst P (ap (λ (v : ItemsValue). v.born) c.self.view_is)
+    (births_early c.self.inside.leaf.items c.self.inside.ready.items c.self.inside.lists.items c.self.invariant.lists) in
     λ k d low. omega (arith, early k d low, c.len.ensures, c.self.inside.leaf.ok.0)

@@ -6,6 +6,6 @@ use Rattle.leaf_items.proofs.items.LeafItems.granted.Goals as goal
 pub returns : goal.returns
 returns c =
     let parts : owned c.args.self.now c.args.list + granted c.args.self.now c.args.list ≡ length (items_of c.args.self.now c.args.list) =
-        parted (items_of c.args.self.now c.args.list) (born_of c.args.self.now c.args.list) in
+    parted (items_of c.args.self.now c.args.list) (born_of c.args.self.now c.args.list) in
     let long : length c.items.result.now ≡ length (items_of c.args.self.now c.args.list) = ap length c.items.ensures.items in
     omega (arith, parts, long, c.owned.ensures)

@@ -9,7 +9,7 @@ index_mut-known-requires c =
     let lists : List ListValue = c.loop-list.self-inside.lists.items in
     let leaf : List ℕ = c.loop-list.self-inside.leaf.items in
     let are : AreLists leaf (c.pop.new.self.items ++ c.in-Some.list ∷ []) lists =
-        lists_same leaf leaf _ _ lists lists refl (sym c.in-Some.ensures.items) refl c.loop-list.invariant.kept.lists in
+    lists_same leaf leaf _ _ lists lists refl (sym c.in-Some.ensures.items) refl c.loop-list.invariant.kept.lists in
     omega (arith, last_low leaf c.pop.new.self.items lists c.in-Some.list are, c.loop-list.self-inside.lists.ok.0)
 
 pub unwant-requires : goal.unwant-requires
@@ -17,7 +17,7 @@ unwant-requires c =
     let lists : List ListValue = c.loop-list.self-inside.lists.items in
     let leaf : List ℕ = c.loop-list.self-inside.leaf.items in
     let are : AreLists leaf (c.pop.new.self.items ++ c.in-Some.list ∷ []) lists =
-        lists_same leaf leaf _ _ lists lists refl (sym c.in-Some.ensures.items) refl c.loop-list.invariant.kept.lists in
+    lists_same leaf leaf _ _ lists lists refl (sym c.in-Some.ensures.items) refl c.loop-list.invariant.kept.lists in
     let low : c.in-Some.list < length lists = last_low leaf c.pop.new.self.items lists c.in-Some.list are in
     wanted_once leaf c.pop.new.self.items lists c.in-Some.list c.index_mut-known.result.now c.index_mut-known.result.now low
     (known_is lists c.in-Some.list c.index_mut-known.result.now low c.index_mut-known.ensures.value) are
@@ -27,9 +27,10 @@ loop-list-preserved c =
     let lists : List ListValue = c.loop-list.self-inside.lists.items in
     let leaf : List ℕ = c.loop-list.self-inside.leaf.items in
     let are : AreLists leaf (c.pop.new.self.items ++ c.in-Some.list ∷ []) lists =
-        lists_same leaf leaf _ _ lists lists refl (sym c.in-Some.ensures.items) refl c.loop-list.invariant.kept.lists in
+    lists_same leaf leaf _ _ lists lists refl (sym c.in-Some.ensures.items) refl c.loop-list.invariant.kept.lists in
     let low : c.in-Some.list < length lists = last_low leaf c.pop.new.self.items lists c.in-Some.list are in
-    let known : c.index_mut-known.result.now ≡ list_at lists c.in-Some.list = known_is lists c.in-Some.list c.index_mut-known.result.now low c.index_mut-known.ensures.value in
+    let known : c.index_mut-known.result.now ≡ list_at lists c.in-Some.list =
+    known_is lists c.in-Some.list c.index_mut-known.result.now low c.index_mut-known.ensures.value in
     record {
       kept = record {
         lists = unwant_step leaf c.pop.new.self.items lists c.in-Some.list c.index_mut-known.result.now c.unwant.new.self low known are c.unwant.ensures;
@@ -39,7 +40,8 @@ loop-list-preserved c =
         few_lists = c.loop-list.invariant.kept.few_lists;
       };
       leaf = c.loop-list.invariant.leaf;
-      born = births_set lists c.in-Some.list c.unwant.new.self low (ap (λ (v : ListValue). v.born) c.unwant.ensures ∙ ap (λ (v : ListValue). v.born) known) ∙ c.loop-list.invariant.born;
+      born = births_set lists c.in-Some.list c.unwant.new.self low (ap (λ (v : ListValue). v.born) c.unwant.ensures ∙ ap (λ (v : ListValue). v.born) known)
+          ∙ c.loop-list.invariant.born;
       rooms = c.loop-list.invariant.rooms;
     }
 

@@ -8,17 +8,20 @@ use Rattle.leaf_items.proofs.items.LeafItems.want.Goals as goal
 pub want-requires : goal.want-requires
 want-requires c =
     let lists : List ListValue = c.self.inside.lists.items in
-    let low : c.args.list < length lists = omega (arith, c.requires, ap (λ (v : ItemsValue). length v.born) c.self.view_is, length-map lists (λ (v : ListValue). v.born)) in
+    let low : c.args.list < length lists =
+    omega (arith, c.requires, ap (λ (v : ItemsValue). length v.born) c.self.view_is, length-map lists (λ (v : ListValue). v.born)) in
     let few : c.index_mut-known.result.now.wanted ≤ length c.self.inside.ready.items =
-        wanted_few c.self.inside.leaf.items c.self.inside.ready.items lists c.args.list c.index_mut-known.result.now low
-        (known_is lists c.args.list c.index_mut-known.result.now low c.index_mut-known.ensures.value) c.self.invariant.lists in
+    wanted_few c.self.inside.leaf.items c.self.inside.ready.items lists c.args.list c.index_mut-known.result.now low
+    (known_is lists c.args.list c.index_mut-known.result.now low c.index_mut-known.ensures.value) c.self.invariant.lists in
     omega (arith, few, c.self.inside.ready.ok.0, c.if-len-count.false)
 
 pub invariant_of-self-2 : goal.invariant_of-self-2
 invariant_of-self-2 c =
     let lists : List ListValue = c.self.inside.lists.items in
-    let low : c.args.list < length lists = omega (arith, c.requires, ap (λ (v : ItemsValue). length v.born) c.self.view_is, length-map lists (λ (v : ListValue). v.born)) in
-    let known : c.index_mut-known.result.now ≡ list_at lists c.args.list = known_is lists c.args.list c.index_mut-known.result.now low c.index_mut-known.ensures.value in
+    let low : c.args.list < length lists =
+    omega (arith, c.requires, ap (λ (v : ItemsValue). length v.born) c.self.view_is, length-map lists (λ (v : ListValue). v.born)) in
+    let known : c.index_mut-known.result.now ≡ list_at lists c.args.list =
+    known_is lists c.args.list c.index_mut-known.result.now low c.index_mut-known.ensures.value in
     let next : List ListValue = set lists c.args.list c.want.new.self in
     let ready : List ℕ = c.self.inside.ready.items ++ c.args.list ∷ [] in
     record {
@@ -35,11 +38,14 @@ invariant_of-self-2 c =
 pub returns-clause-ok : goal.returns-clause-ok
 returns-clause-ok c =
     let lists : List ListValue = c.self.inside.lists.items in
-    let low : c.args.list < length lists = omega (arith, c.requires, ap (λ (v : ItemsValue). length v.born) c.self.view_is, length-map lists (λ (v : ListValue). v.born)) in
-    let known : c.index_mut-known.result.now ≡ list_at lists c.args.list = known_is lists c.args.list c.index_mut-known.result.now low c.index_mut-known.ensures.value in
+    let low : c.args.list < length lists =
+    omega (arith, c.requires, ap (λ (v : ItemsValue). length v.born) c.self.view_is, length-map lists (λ (v : ListValue). v.born)) in
+    let known : c.index_mut-known.result.now ≡ list_at lists c.args.list =
+    known_is lists c.args.list c.index_mut-known.result.now low c.index_mut-known.ensures.value in
     value_same _ _ _ _ _ _ _ _
     (c.in_ok-reserve.ensures.items ∙ ap (λ (v : ItemsValue). v.leaf) c.self.view_is)
     (births_set lists c.args.list c.want.new.self low (ap (λ (v : ListValue). v.born) c.in_ok-want.ensures.ok ∙ ap (λ (v : ListValue). v.born) known)
     ∙ ap (λ (v : ItemsValue). v.born) c.self.view_is)
-    (c.in_ok-push.ensures.items ∙ ap (λ (s : List ℕ). s ++ c.args.list ∷ []) (c.in_ok-reserve-2.ensures.items ∙ ap (λ (v : ItemsValue). v.ready) c.self.view_is))
+    (c.in_ok-push.ensures.items
+    ∙ ap (λ (s : List ℕ). s ++ c.args.list ∷ []) (c.in_ok-reserve-2.ensures.items ∙ ap (λ (v : ItemsValue). v.ready) c.self.view_is))
     (ap (λ (v : ItemsValue). v.rooms) c.self.view_is)

@@ -5,9 +5,9 @@ use std::test::Fail;
 #[test]
 fn a_filing_claims_walks_and_files_beside_a_shut(rt: HostRuntime) -> Result<(), Fail> {
     let mut lists = Lists::new(rt.alloc(), 2)?;
+    lists.split(&[])?;
     assert!(rt; lists.may_link(1, 0));
     lists.link(1, 0)?;
-    lists.split(&[])?;
     assert!(rt; lists.may_claim(0, 1));
     assert_eq!(rt; lists.claim(0, 1), Claimed::Index(0));
     assert!(rt; lists.has_seat(0));
@@ -35,9 +35,9 @@ fn a_filing_claims_walks_and_files_beside_a_shut(rt: HostRuntime) -> Result<(), 
 #[test]
 fn a_mark_that_comes_first_keeps_the_item_out(rt: HostRuntime) -> Result<(), Fail> {
     let mut lists = Lists::new(rt.alloc(), 1)?;
+    lists.split(&[])?;
     assert!(rt; lists.may_link(0, 0));
     lists.link(0, 0)?;
-    lists.split(&[])?;
     assert!(rt; lists.may_claim(0, 0));
     lists.claim(0, 0);
     assert!(rt; lists.has_list(0));

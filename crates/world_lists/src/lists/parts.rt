@@ -1,5 +1,5 @@
 ghost use Rattle.std.specs.Prelude.{◌≡◌, ◌+◌, ◌-◌, ◌*◌, ◌^◌, ◌<◌, ◌≤◌, length, IsTrue};
-ghost use Rattle.world_words.specs.WordRows.{made_count, words_in};
+ghost use Rattle.world_words.specs.WordRows.{list_count, made_count, words_in};
 ghost use Rattle.world_book.specs.Owners.{HasMark, leaf_at};
 
 use super::Lists;
@@ -7,7 +7,7 @@ use super::Lists;
 /// What the calls of lists ask, as tests that are made when they run.
 impl Lists {
     pub fn has_list(&self, list: u32) -> bool
-        ensures { IsTrue result → list < length self.now.owner.book.leaves }
+        ensures { IsTrue result → (list < length self.now.owner.book.leaves) × (list < list_count self.now.words) }
     {
         (list as usize) < self.words.lists()
     }

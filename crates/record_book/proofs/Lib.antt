@@ -1,5 +1,7 @@
+mod BagLaws
 mod BookLaws
 mod FactLaws
+mod ItemLaws
 mod KeptLaws
 mod PlaceLaws
 mod PublishedLaws

@@ -84,7 +84,7 @@ module _ (a : Inside) (v : BookValue) (k : IsKept a) (is : book_of a ≡ v) wher
       (λ place j b s there stands less. (
         published_there v.events v.standings place (b.first + j) b s there stands (omega arith) (omega arith),
         ap (λ (l : List PointValue). slice_get l (b.first + j)) (points_kept v.events) ∙ item_of v.events place b j origin there less
-        ∙ sym (slice_get-get_or b.points j origin less),
+            ∙ sym (slice_get-get_or b.points j origin less),
       ))
 
   pub same_all : IsSameBag (published v.events) (published_among v (up_to (admitted v.events)))

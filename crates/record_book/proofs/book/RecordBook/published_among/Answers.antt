@@ -16,12 +16,12 @@ loop-item-preserved c =
     let item : ℕ = get_or items i 0 in
     let told : c.is_published_at.result ≡ is_published_item book item = c.is_published_at.ensures item c.place_near-place.ensures.item in
     elim c.if-is_published_at.branch [
-    | then-is_published_at+in_ok-push w ↦
-        ap (λ v. v.items) w.points-is ∙ w.in_ok-push.ensures.items
-        ∙ ap (λ (l : List PointValue). l ++ w.point_at.result ∷ []) c.loop-item.invariant
-        ∙ sym (passing_more_yes points_at (is_published_item book) items i 0 w.point_at.result c.loop-item-test.true
-        (sym told ∙ w.if-is_published_at.true) w.point_at.ensures)
-    | else-is_published_at w ↦
-        ap (λ v. v.items) w.points-is ∙ c.loop-item.invariant
-        ∙ sym (passing_more_no points_at (is_published_item book) items i 0 c.loop-item-test.true (sym told ∙ w.if-is_published_at.false))
+      | then-is_published_at+in_ok-push w ↦
+          ap (λ v. v.items) w.points-is ∙ w.in_ok-push.ensures.items
+          ∙ ap (λ (l : List PointValue). l ++ w.point_at.result ∷ []) c.loop-item.invariant
+          ∙ sym (passing_more_yes points_at (is_published_item book) items i 0 w.point_at.result c.loop-item-test.true
+          (sym told ∙ w.if-is_published_at.true) w.point_at.ensures)
+      | else-is_published_at w ↦
+          ap (λ v. v.items) w.points-is ∙ c.loop-item.invariant
+          ∙ sym (passing_more_no points_at (is_published_item book) items i 0 c.loop-item-test.true (sym told ∙ w.if-is_published_at.false))
     ]

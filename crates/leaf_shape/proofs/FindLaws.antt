@@ -1,8 +1,8 @@
 -- How the node of a path is found, and what stands there.
-use Rattle.std.proofs.Common.{◌≡◌, ℕ, ◌+◌, ◌<◌, ◌≤◌, List, ◌∷◌, length, drop, get_or, Some, None, Option, ap, ◌∙◌, sym, refl, arith}
-use Rattle.std.proofs.lemmas.List.{drop_all}
+use Rattle.std.proofs.Common.{◌≡◌, ℕ, ◌+◌, ◌<◌, ◌≤◌, List, [], ◌∷◌, length, drop, get_or, Some, None, Option, ap, ◌∙◌, sym, refl, arith}
+use Rattle.std.proofs.lemmas.List.{drop_all, get_or_default}
 use Rattle.std.proofs.lemmas.Option.{slice_get-get_or}
-use Rattle.std.specs.Prelude.{◌↔◌, IfNone, IfSome, IsTrue, is_some, slice_get}
+use Rattle.std.specs.Prelude.{◌↔◌, Contains, IfSome, IsSome, IsTrue, is_some, slice_get}
 use Rattle.cube_math.specs.Cubes.{CubeValue}
 use Rattle.cube_math.proofs.Ways.{next_of}
 use Rattle.leaf_shape.specs.declared.node.Node.{Node}
@@ -46,16 +46,22 @@ module _ {cube : CubeValue} {nodes : List Node} {paths : List (List ℕ)} {place
   latest_there i None at is = tt
   latest_there i (Some list) at is = stands_at cube nodes paths placed.listed (fit_of placed) path i list at is
 
-  -- where there is none, no list was opened for it
-  pub none_there : (i : ℕ) (o : Option ℕ) → node_at nodes 0 path ≡ Some i → (node nodes i).list ≡ o
-      → IfNone o ((list : ℕ) → list < length paths → path_of paths list ≡ path → ⊥)
-  none_there i None at is = λ list low same. none_at cube nodes paths placed.listed (fit_of placed) path i list at is low same
-  none_there i (Some list) at is = tt
+  -- a list was opened for the path where there is one
+  pub found_there : (i : ℕ) (o : Option ℕ) → node_at nodes 0 path ≡ Some i → (node nodes i).list ≡ o → IsSome o ↔ Contains paths path
+  found_there i None at is = (
+    λ some. absurd (cc),
+    λ has. absurd (none_at cube nodes paths placed.listed (fit_of placed) path i has.0 at is has.1
+        (get_or_default paths has.0 [] path has.1 ∙ has.2)),
+  )
+  found_there i (Some list) at is =
+      let l : IsLatest paths path list = stands_at cube nodes paths placed.listed (fit_of placed) path i list at is in
+      (λ some. (list, l.opened, get_or_default paths list path [] l.opened ∙ l.is), λ has. refl)
 
-  -- nor where no node stands
-  pub none_nowhere : node_at nodes 0 path ≡ None → (list : ℕ) → list < length paths → path_of paths list ≡ path → ⊥
-  none_nowhere nowhere list low same =
-      let f : (i : ℕ) × (node_at nodes 0 (path_of paths list) ≡ Some i) = found_node cube nodes paths placed.listed (fit_of placed) list low in
+  -- and none where no node stands
+  pub none_nowhere : node_at nodes 0 path ≡ None → Contains paths path → ⊥
+  none_nowhere nowhere has =
+      let f : (i : ℕ) × (node_at nodes 0 (path_of paths has.0) ≡ Some i) = found_node cube nodes paths placed.listed (fit_of placed) has.0 has.1 in
+      let same : path_of paths has.0 ≡ path = get_or_default paths has.0 [] path has.1 ∙ has.2 in
       none_is f.0 (sym nowhere ∙ ap (node_at nodes 0) (sym same) ∙ f.1)
 
   -- a path is split where its node has children

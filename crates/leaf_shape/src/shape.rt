@@ -1,4 +1,4 @@
-ghost use Rattle.std.specs.Prelude.{◌≡◌, ◌≢◌, ℕ, ◌+◌, ◌≤◌, ◌<◌, ◌↔◌, List, [], ◌∷◌, ◌++◌, All, Contains, IsTrue, IfNone, IfOk, IfSome, OnOk, OnErr, length};
+ghost use Rattle.std.specs.Prelude.{◌≡◌, ◌≢◌, ℕ, ◌+◌, ◌≤◌, ◌<◌, ◌↔◌, List, [], ◌∷◌, ◌++◌, All, Contains, IsSome, IsTrue, IfOk, IfSome, OnOk, OnErr, length};
 ghost use Rattle.std.specs.List.{AllZip};
 ghost use Rattle.cube_math.specs.Cubes.{contains, cube_at};
 ghost use Rattle.leaf_shape.specs.Shapes.{caught_up, IsLatest, IsListOf, IsPathIn, IsSplit, ShapeValue, path_of};
@@ -93,8 +93,8 @@ impl LeafShape {
 
     /// The list that was opened last for exactly this path; None where none was.
     pub fn list_at(&self, path: &Path) -> Option<u32>
+        ensures found { IsSome result ↔ Contains self.now.paths path.now }
         ensures latest { IfSome result (IsLatest self.now.paths path.now) }
-        ensures none { IfNone result ((list : ℕ) → list < length self.now.paths → path_of self.now.paths list ≡ path.now → ⊥) }
     {
         let node = find_node(&self.nodes, path)?;
         self.nodes[node as usize].list

@@ -50,13 +50,15 @@ published_batches-publication test (k ∷ kept) (Out ∷ standings) zero b there
     omega (arith, e, both)
 published_batches-publication test (k ∷ kept) (Published ∷ standings) zero b there out = absurd (cc)
 published_batches-publication test (k ∷ kept) (Abandoned ∷ standings) zero b there out = absurd (cc)
-published_batches-publication test (k ∷ kept) (Out ∷ standings) (suc place) b there out = published_batches-publication test kept standings place b there out
+published_batches-publication test (k ∷ kept) (Out ∷ standings) (suc place) b there out =
+    published_batches-publication test kept standings place b there out
 published_batches-publication test (k ∷ kept) (Published ∷ standings) (suc place) b there out =
     let rest = published_batches-publication test kept standings place b there out in
     let before = count_both test k.points (points_in (published_batches kept standings)) in
     let after = count_both test k.points (points_in (published_batches kept (set standings place Published))) in
     omega (arith, rest, before, after)
-published_batches-publication test (k ∷ kept) (Abandoned ∷ standings) (suc place) b there out = published_batches-publication test kept standings place b there out
+published_batches-publication test (k ∷ kept) (Abandoned ∷ standings) (suc place) b there out =
+    published_batches-publication test kept standings place b there out
 
 -- so does the record
 pub same_more : (test : PointValue → Bool) (points published before : List PointValue) (after : ℕ) → count_by test points ≡ count_by test before

@@ -15,7 +15,8 @@ use super::RecordBook;
 /// published.
 pub fn published_items_have_the_published_points(book: &RecordBook)
     ensures all { IsSameBag (published book.now.events) (published_among book.now (up_to (admitted book.now.events))) }
-    ensures passing { (test : PointValue → Bool) → IsSameBag (filter test (published book.now.events)) (published_among book.now (items_passing test book.now.events)) }
+    ensures passing { (test : PointValue → Bool)
+        → IsSameBag (filter test (published book.now.events)) (published_among book.now (items_passing test book.now.events)) }
 {
     let _ = &book.rows;
 }

@@ -1,16 +1,16 @@
 use Rattle.std.proofs.Common.{◌∙◌, ◌<◌, ◌∷◌, ◌++◌, [], ℕ, List, ap, get_or, length, subst, sym, take}
 use Rattle.std.specs.List.{AllZip, Contains}
-use Rattle.std.proofs.lemmas.List.{get_or_default, take_more}
+use Rattle.std.proofs.lemmas.List.{take_more}
 use Rattle.std.proofs.lemmas.Slice.Zip.{all_zipped_more}
 use Rattle.leaf_shape.specs.Shapes.{IsLatest}
 use Rattle.leaf_shape.proofs.shape.LeafShape.lists_at.Goals as goal
 
 pub unreachable-requires : goal.unreachable-requires
 unreachable-requires c =
-    let paths : List (List ℕ) = c.args.self.now.paths in
-    let path : List ℕ = get_or c.args.paths.now c.loop-path.path-index c.path-item.result in
-    let has : Contains paths path = c.requires c.loop-path.path-index c.path-item.result c.loop-path-test.true in
-    c.in_default.ensures.none has.0 has.1 (get_or_default paths has.0 [] path has.1 ∙ has.2 ∙ sym c.path-item.is)
+    let has : Contains c.args.self.now.paths (get_or c.args.paths.now c.loop-path.path-index c.path-item.result) =
+    c.requires c.loop-path.path-index c.path-item.result c.loop-path-test.true in
+    let some = c.in_default.ensures.found.1 (subst (Contains c.args.self.now.paths) (sym c.path-item.is) has) in
+    cc
 
 pub loop-path-preserved : goal.loop-path-preserved
 loop-path-preserved c =

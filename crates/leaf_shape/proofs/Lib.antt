@@ -1,5 +1,6 @@
 pub mod ChildrenLaws
 pub mod CubeLaws
+pub mod FindLaws
 pub mod LeafListLaws
 pub mod ListLaws
 pub mod NodeLaws

@@ -37,7 +37,7 @@ module _ (cube : CubeValue) (nodes : List Node) (paths : List (List ℕ)) (liste
   way_of list low = let in_cube : IsPathIn cube (path_of paths list) = fit list low in record { octants = in_cube.octants; fits = omega (arith, in_cube.fits) }
 
   -- a node of a list's path
-  found_node : (list : ℕ) → list < length paths → (i : ℕ) × (node_at nodes 0 (path_of paths list) ≡ Some i)
+  pub found_node : (list : ℕ) → list < length paths → (i : ℕ) × (node_at nodes 0 (path_of paths list) ≡ Some i)
   found_node list low = of_node (node_at nodes 0 (path_of paths list)) refl
     where
       of_node : (o : Option ℕ) → node_at nodes 0 (path_of paths list) ≡ o → (i : ℕ) × (node_at nodes 0 (path_of paths list) ≡ Some i)

@@ -1,6 +1,6 @@
 ghost use Rattle.std.specs.Prelude.{◌≡◌, ℕ, ◌+◌, ◌*◌, ◌<◌, ◌≤◌, ◌^◌, None, Some, IsSome, length, vec_len};
 ghost use Rattle.std.specs.Vec.{vec_capacity};
-ghost use Rattle.leaf_shape.specs.Tables.{HasChildren, IsOpened, IsTree, missing, node};
+ghost use Rattle.leaf_shape.specs.Tables.{HasChildren, IsOpened, IsTree, missing, node, node_at};
 
 use cube_math::Path;
 
@@ -20,6 +20,23 @@ pub(crate) fn bare_node() -> Node
         below: None,
         list: None,
     }
+}
+
+/// The node to which a path leads from the root, where one stands there.
+pub(crate) fn find_node(nodes: &[Node], path: &Path) -> Option<u32>
+    requires tree { IsTree nodes.now }
+    requires few { length nodes.now < 2 ^ 32 }
+    ensures { result ≡ node_at nodes.now 0 path.now }
+{
+    let steps = path.len();
+    let mut node = 0;
+    for step in 0..steps {
+        let Some(first) = nodes[node as usize].below else {
+            return None;
+        };
+        node = first + u32::from(path.octant(step));
+    }
+    Some(node)
 }
 
 /// Opens a list for a path: gives children to the nodes on the way that have none, and notes the list at the path's

@@ -1,8 +1,9 @@
-ghost use Rattle.std.specs.Prelude.{◌≡◌, ◌≢◌, ℕ, ◌+◌, ◌≤◌, ◌<◌, ◌↔◌, List, [], ◌∷◌, ◌++◌, All, IsTrue, IfOk, OnOk, OnErr, length};
+ghost use Rattle.std.specs.Prelude.{◌≡◌, ◌≢◌, ℕ, ◌+◌, ◌≤◌, ◌<◌, ◌↔◌, List, [], ◌∷◌, ◌++◌, All, Contains, IsSome, IsTrue, IfOk, IfSome, OnOk, OnErr, length};
+ghost use Rattle.std.specs.List.{AllZip};
 ghost use Rattle.cube_math.specs.Cubes.{contains, cube_at};
-ghost use Rattle.leaf_shape.specs.Shapes.{caught_up, IsListOf, IsPathIn, IsSplit, ShapeValue, path_of};
+ghost use Rattle.leaf_shape.specs.Shapes.{caught_up, IsLatest, IsListOf, IsPathIn, IsSplit, ShapeValue, path_of};
 
-use crate::node::{Node, bare_node};
+use crate::node::{Node, bare_node, find_node};
 use crate::opening::{Opening, count_blocks, openings};
 use crate::opens::open_all;
 use crate::place::Place;
@@ -88,6 +89,40 @@ impl LeafShape {
         ensures { result ≡ cube_at self.now.cube (path_of self.now.paths list) }
     {
         self.places[list as usize].cube
+    }
+
+    /// The list that was opened last for exactly this path; None where none was.
+    pub fn list_at(&self, path: &Path) -> Option<u32>
+        ensures found { IsSome result ↔ Contains self.now.paths path.now }
+        ensures latest { IfSome result (IsLatest self.now.paths path.now) }
+    {
+        let node = find_node(&self.nodes, path)?;
+        self.nodes[node as usize].list
+    }
+
+    /// Whether some list was opened below a path.
+    pub fn is_split(&self, path: &Path) -> bool
+        ensures { IsTrue result ↔ IsSplit self.now.paths path.now }
+    {
+        match find_node(&self.nodes, path) {
+            Some(node) => self.nodes[node as usize].below.is_some(),
+            None => false,
+        }
+    }
+
+    /// For each of some paths the list that was opened last for it.
+    pub fn lists_at(&self, alloc: Global, paths: &[Path]) -> Result<Vec<u32>, AllocError>
+        requires { All (Contains self.now.paths) paths.now }
+        ensures { IfOk result (λ lists. AllZip (IsLatest self.now.paths) paths.now lists.items) }
+    {
+        let mut lists = Vec::with_capacity(alloc, paths.len())?;
+        for path in paths {
+            let Some(list) = self.list_at(path) else {
+                unreachable!()
+            };
+            lists.push(list)?;
+        }
+        Ok(lists)
     }
 
     /// Whether no list was opened below the path of this one.

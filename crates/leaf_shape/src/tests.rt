@@ -1,4 +1,4 @@
-ghost use Rattle.std.specs.Prelude.{◌+◌, ◌≤◌, All, IsTrue, length};
+ghost use Rattle.std.specs.Prelude.{◌+◌, ◌≤◌, All, Contains, IsTrue, length};
 
 use crate::LeafShape;
 use cube_math::{Cube, Path, Point};
@@ -66,6 +66,26 @@ fn open_lists(alloc: Global, shape: &mut LeafShape, paths: &[Path]) -> Result<u3
     }
     shape.reserve(alloc, paths)?;
     Ok(shape.open_ready())
+}
+
+/// Whether a list was opened for each of these paths.
+fn are_opened(shape: &LeafShape, paths: &[Path]) -> bool
+    ensures { IsTrue result → All (Contains shape.now.paths) paths.now }
+{
+    for path in paths {
+        if shape.list_at(path).is_none() {
+            return false;
+        }
+    }
+    true
+}
+
+/// The lists of these paths, where each has one.
+fn lists_of(alloc: Global, shape: &LeafShape, paths: &[Path]) -> Result<Vec<u32>, Fail> {
+    if !are_opened(shape, paths) {
+        return Err("a path without a list".into());
+    }
+    Ok(shape.lists_at(alloc, paths)?)
 }
 
 /// The paths of the eight octants below a path.
@@ -208,5 +228,31 @@ fn an_older_copy_catches_up(rt: HostRuntime) -> Result<(), Fail> {
     another.catch_up(rt.alloc(), &shape)?;
     assert_eq!(rt; another.root_cube(), cube);
     assert_eq!(rt; list_at(&another, &at(0, 0, 300)), Some(5));
+    Ok(())
+}
+
+#[test]
+fn a_path_has_the_list_opened_last_for_it(rt: HostRuntime) -> Result<(), Fail> {
+    let cube = Cube::new(0, 0, 0, 9).ok_or("fits")?;
+    let mut shape = LeafShape::new(rt.alloc(), cube)?;
+    let near = Path::root().child(3);
+    let far = near.child(5);
+    assert_eq!(rt; shape.list_at(&Path::root()), Some(0));
+    assert_eq!(rt; shape.list_at(&near), None);
+    assert!(rt; !shape.is_split(&Path::root()));
+    open_lists(rt.alloc(), &mut shape, &[far, Path::root(), far])?;
+    assert_eq!(rt; shape.list_at(&far), Some(3));
+    assert_eq!(rt; shape.list_at(&Path::root()), Some(2));
+    // A list was opened below this path and beside that one, and none for them.
+    assert_eq!(rt; shape.list_at(&near), None);
+    assert_eq!(rt; shape.list_at(&near.child(4)), None);
+    assert_eq!(rt; shape.list_at(&far.child(0)), None);
+    assert!(rt; shape.is_split(&Path::root()));
+    assert!(rt; shape.is_split(&near));
+    assert!(rt; !shape.is_split(&far));
+    assert!(rt; !shape.is_split(&near.child(4)));
+    assert!(rt; !shape.is_split(&Path::root().child(2)));
+    let lists = lists_of(rt.alloc(), &shape, &[far, Path::root(), far])?;
+    assert_eq!(rt; lists.as_slice(), [3, 2, 3].as_slice());
     Ok(())
 }

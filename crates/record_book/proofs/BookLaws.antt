@@ -12,22 +12,24 @@ use Rattle.std.proofs.lemmas.Option.{slice_get_within}
 use Rattle.cube_math.specs.Points.{PointValue}
 use Rattle.cube_math.specs.declared.config.Entry.{Entry}
 use Rattle.record_model.specs.Admissions.{admitted, admitted_points}
-use Rattle.record_model.specs.Records.{Record, JournalEntry, journal}
+use Rattle.record_model.specs.Records.{Record, JournalEntry, journal, published}
 use Rattle.record_model.specs.declared.event.Event.{Event}
 use Rattle.record_model.specs.declared.event.Event.TheVariants.{Admission, Look, Publication}
-use Rattle.record_model.proofs.RecordLaws.{journal-append}
+use Rattle.record_model.proofs.RecordLaws.{journal-append, published-admission, published-look, published-publication}
 use Rattle.version_rows.specs.Journals.{AreApart, AreBatchesOf, HasAdmission, entry_of_row}
 use Rattle.version_rows.specs.Versions.{BatchRowValue}
 use Rattle.version_rows.proofs.StayLaws.{batches_stay, each_stays, same_map}
 use Rattle.record_book.specs.Books.{entries_of, short_entry}
 use Rattle.record_book.specs.BookKept.{IsBook, IsPlaced, IsRowOf, admission_of, event_of_row, events_of, is_published, publication_of}
 use Rattle.record_book.specs.KeptBatches.{KeptValue, kept_from, kept_of, points_in}
+use Rattle.record_book.specs.PublishedItems.{published_batches}
 use Rattle.record_book.specs.declared.row.Row.{Row}
 use Rattle.record_book.specs.declared.row.Row.TheVariants.{Admits, Looks, Publishes}
 use Rattle.record_book.specs.declared.row.Standing.{Standing}
 use Rattle.record_book.specs.declared.row.Standing.TheVariants.{Abandoned, Out, Published}
 use Rattle.record_book.proofs.KeptLaws.{IsAdmitted, admission_at, admitted_kept, ends_within, kept_from-append, ordered, part_of, points_kept}
 use Rattle.record_book.proofs.PlaceLaws.{get_last, get_left, get_set_other, get_set_same, out_is_not_published, published_more, published_still}
+use Rattle.record_book.proofs.PublishedLaws.{published_batches-abandonment, published_batches-admission, published_batches-publication, same_more}
 
 -- ---- rows
 
@@ -224,6 +226,8 @@ module _ (rows : List Row) (kept : List KeptValue) (standings : List Standing) (
         batches_are = subst (λ (l : Record). AreBatchesOf l batches) (sym is)
             (batches_stay events batches e b.points refl (items_more events b begins) book.batches_are);
         placed = All-weaker (IsPlaced kept standings) (IsPlaced (kept ++ b ∷ []) (standings ++ Out ∷ [])) (placed_still b) batches book.placed;
+        bag = λ test. ap (count_by test) (ap published is ∙ published-admission events b.input b.loader b.points) ∙ book.bag test
+            ∙ sym (ap (λ (l : List KeptValue). count_by test (points_in l)) (published_batches-admission kept standings b book.stand));
         published = book.published ∙ out_counts standings;
       }
     where
@@ -288,6 +292,9 @@ module _ (rows : List Row) (kept : List KeptValue) (standings : List Standing) (
         placed = All-push (IsPlaced kept (set standings place Published)) batches row
             (All-weaker (IsPlaced kept standings) (IsPlaced kept (set standings place Published)) (placed_elsewhere Published place out) batches book.placed)
             record { place = place; batch = b; there = there; standing = get_set_same standings place Out Published out; first = refl; len = refl };
+        bag = λ test. ap (count_by test) (ap published is ∙ published-publication events b.input b.loader b.points)
+            ∙ same_more test (published events) b.points (points_in (published_batches kept standings)) _ (book.bag test)
+            (published_batches-publication test kept standings place b there out);
         published = length_push batches row ∙ ap (λ (n : ℕ). n + 1) book.published ∙ sym (published_more standings place out);
       }
     where
@@ -315,6 +322,7 @@ module _ (rows : List Row) (kept : List KeptValue) (standings : List Standing) (
         batches_are = subst (λ (l : Record). AreBatchesOf l batches) (sym is)
             (batches_stay events batches e [] refl (items_same events e (λ n. refl) ∙ sym (append-nil (admitted_points events))) book.batches_are);
         placed = book.placed;
+        bag = λ test. ap (count_by test) (ap published is ∙ published-look events pass) ∙ book.bag test;
         published = book.published;
       }
 
@@ -330,5 +338,7 @@ module _ (rows : List Row) (kept : List KeptValue) (standings : List Standing) (
     entries_are = book.entries_are;
     batches_are = book.batches_are;
     placed = All-weaker (IsPlaced kept standings) (IsPlaced kept (set standings place Abandoned)) (placed_elsewhere Abandoned place out) batches book.placed;
+    bag = λ test. book.bag test
+        ∙ sym (ap (λ (l : List KeptValue). count_by test (points_in l)) (published_batches-abandonment kept standings place out));
     published = book.published ∙ sym (published_still standings place out);
   }

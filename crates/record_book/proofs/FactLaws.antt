@@ -36,6 +36,7 @@ empty_book = record {
     apart = λ i j d low high. absurd (omega arith);
   };
   placed = All-nil (IsPlaced [] []);
+  bag = λ test. refl;
   published = refl;
 }
 

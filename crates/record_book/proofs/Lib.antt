@@ -1,6 +1,9 @@
+mod BagLaws
 mod BookLaws
 mod FactLaws
+mod ItemLaws
 mod KeptLaws
 mod PlaceLaws
+mod PublishedLaws
 mod SearchLaws
 mod ViewLaws

@@ -2,14 +2,16 @@
 use Rattle.std.specs.Prelude.{◌≡◌, ◌^◌, ◌<◌, ◌≤◌, ℕ, Bool, true, false, List, length, map, All, count_by, slice_get, Option, Some, None, vec_len, IsTrue}
 use Rattle.std.specs.Vec.{vec_capacity}
 use Rattle.cube_math.specs.declared.config.Entry.{Entry}
+use Rattle.octree_model.specs.Bags.{IsSameBag}
 use Rattle.record_model.specs.Admissions.{admitted}
-use Rattle.record_model.specs.Records.{Record}
+use Rattle.record_model.specs.Records.{Record, published}
 use Rattle.record_model.specs.declared.event.Event.{Event}
 use Rattle.record_model.specs.declared.event.Event.TheVariants.{Admission, Publication, Look}
 use Rattle.version_rows.specs.Journals.{AreBatchesOf}
 use Rattle.version_rows.specs.Versions.{BatchRowValue}
 use Rattle.record_book.specs.Books.{BookValue, entries_of}
-use Rattle.record_book.specs.KeptBatches.{KeptValue, kept_of}
+use Rattle.record_book.specs.KeptBatches.{KeptValue, kept_of, points_in}
+use Rattle.record_book.specs.PublishedItems.{published_batches}
 use Rattle.record_book.specs.declared.row.Row.{Row}
 use Rattle.record_book.specs.declared.row.Row.TheVariants.{Admits, Publishes, Looks}
 use Rattle.record_book.specs.declared.row.Standing.{Standing}
@@ -68,6 +70,7 @@ pub record IsBook (rows : List Row) (kept : List KeptValue) (standings : List St
   pub entries_are : entries ≡ entries_of (events_of kept rows)
   pub batches_are : AreBatchesOf (events_of kept rows) batches
   pub placed : All (IsPlaced kept standings) batches
+  pub bag : IsSameBag (published (events_of kept rows)) (points_in (published_batches kept standings))
   pub published : length batches ≡ count_by is_published standings
 
 -- what contracts see of a book

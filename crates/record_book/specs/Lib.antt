@@ -1,3 +1,4 @@
 pub mod BookKept
 pub mod Books
 pub mod KeptBatches
+pub mod PublishedItems

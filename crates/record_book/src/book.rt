@@ -8,6 +8,9 @@ ghost use Rattle.record_book.specs.BookKept.{IsRowOf, event_of_row};
 ghost use Rattle.record_book.specs.KeptBatches.{KeptValue, kept_as, kept_of};
 ghost use Rattle.record_book.specs.declared.row.Standing.TheVariants.{Abandoned, Out, Published};
 
+pub mod laws;
+mod published_items;
+
 use crate::kept_batch::KeptBatch;
 use crate::row::{Row, Standing};
 use crate::within::push_within;
@@ -131,7 +134,16 @@ impl RecordBook {
         requires { item < admitted self.now.events }
         ensures { slice_get (admitted_points self.now.events) item ≡ Some result }
     {
-        let batch = &self.kept[self.place_of(item) as usize];
+        self.point_at(self.place_of(item), item)
+    }
+
+    // The point of an item of the batch at a place.
+    fn point_at(&self, place: u32, item: u32) -> Point
+        requires place { place < length (kept_of self.now.events) }
+        requires item { IfSome (slice_get (kept_of self.now.events) place) (λ b. (b.first ≤ item) × (item < b.first + length b.points)) }
+        ensures { slice_get (admitted_points self.now.events) item ≡ Some result }
+    {
+        let batch = &self.kept[place as usize];
         batch.points()[(item - batch.first()) as usize]
     }
 

@@ -10,6 +10,9 @@ mod tests;
 mod within;
 
 pub use book::RecordBook;
+pub use book::laws::{
+    items_are_published_with_their_batch, published_items_have_the_published_points,
+};
 pub use kept_batch::KeptBatch;
 pub use laws::{admissions_add_kept_batches, books_go_to_threads, kept_batches_hold_the_items};
 pub use row::Standing;

@@ -198,3 +198,77 @@ fn each_item_has_its_point(rt: HostRuntime) -> Result<(), Fail> {
     }
     Ok(())
 }
+
+/// The x coordinates of the published ones of some items.
+fn published_of(alloc: Global, book: &RecordBook, items: &[u32]) -> Result<Vec<i32>, Fail> {
+    let admitted = book.admitted();
+    if !items.iter().all(|item| *item < admitted) {
+        return Err("not admitted".into());
+    }
+    let mut places = Vec::new(alloc);
+    for point in &book.published_among(alloc, items)? {
+        places.push(point.x)?;
+    }
+    Ok(places)
+}
+
+#[test]
+fn items_are_published_with_their_batch(rt: HostRuntime) -> Result<(), Fail> {
+    let one = batch(rt.alloc(), 0, &[11, 12])?;
+    let two = batch(rt.alloc(), 1, &[13])?;
+    let three = batch(rt.alloc(), 2, &[14, 15])?;
+    let four = batch(rt.alloc(), 3, &[16])?;
+    let mut book = RecordBook::new(rt.alloc());
+    for it in [&one, &two, &three, &four] {
+        admit(rt.alloc(), &mut book, it, 0)?;
+    }
+    publish(&mut book, &three, 0, 3)?;
+    abandon(&mut book, &two, 0, 2)?;
+    publish(&mut book, &one, 0, 0)?;
+    assert_eq!(rt; book.admitted(), 6);
+    let wanted = [true, true, false, true, true, false];
+    for (item, is_published) in wanted.iter().enumerate() {
+        assert_eq!(rt; book.is_published_item(item as u32), *is_published);
+    }
+    let all = published_of(rt.alloc(), &book, &[0, 1, 2, 3, 4, 5])?;
+    assert_eq!(rt; all.as_slice(), [11, 12, 14, 15].as_slice());
+    let some = published_of(rt.alloc(), &book, &[1, 2, 4, 5])?;
+    assert_eq!(rt; some.as_slice(), [12, 15].as_slice());
+    let none = published_of(rt.alloc(), &book, &[])?;
+    assert_eq!(rt; none.as_slice(), [].as_slice());
+    let back = published_of(rt.alloc(), &book, &[4, 0, 4])?;
+    assert_eq!(rt; back.as_slice(), [15, 11, 15].as_slice());
+    Ok(())
+}
+
+#[test]
+fn published_items_have_the_published_points(rt: HostRuntime) -> Result<(), Fail> {
+    let mut book = RecordBook::new(rt.alloc());
+    let mut dice = Dice::new(9);
+    let mut out = Vec::new(rt.alloc());
+    for input in 0..30u32 {
+        let mut places = Vec::new(rt.alloc());
+        for _point in 0..dice.below(4) + 1 {
+            places.push(dice.below(4096) as i32)?;
+        }
+        let batch = batch(rt.alloc(), input, &places)?;
+        let first = book.admitted();
+        admit(rt.alloc(), &mut book, &batch, 0)?;
+        out.push((batch, first))?;
+        if dice.below(2) == 0 {
+            let (batch, first) = out.swap_remove(dice.below(out.len()));
+            publish(&mut book, &batch, 0, first)?;
+        }
+        let mut items = Vec::new(rt.alloc());
+        for item in 0..book.admitted() {
+            items.push(item)?;
+        }
+        let mut by_items = published_of(rt.alloc(), &book, &items)?;
+        let mut by_publications = published(rt.alloc(), &book)?;
+        by_items.sort_unstable();
+        by_publications.sort_unstable();
+        assert_eq!(rt; by_items.as_slice(), by_publications.as_slice());
+    }
+    assert!(rt; book.published() > 5);
+    Ok(())
+}

@@ -1,6 +1,5 @@
 -- The row of a list: what the owner keeps of it.
-use Rattle.std.specs.Prelude.{◌≡◌, ℕ, ◌+◌, ◌*◌, ◌^◌, ◌<◌, ◌≤◌, length}
-use Rattle.list_machine.specs.Moves.{chunk_count, next_mark}
+use Rattle.std.specs.Prelude.{◌^◌, ◌≤◌, length}
 use Rattle.list_machine.specs.declared.views.Leaf.{Leaf}
 use Rattle.list_machine.specs.declared.views.Stage.{Stage}
 use Rattle.list_machine.specs.declared.views.Stage.TheVariants.{Open, Swept, Cleared}

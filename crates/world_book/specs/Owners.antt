@@ -1,12 +1,11 @@
 -- The owner's view as a book keeps it, which knows no facts about words.
-use Rattle.std.specs.Prelude.{◌≡◌, ℕ, zero, suc, List, Option, None, Some, ◌+◌, ◌-◌, ◌*◌, ◌/◌, ◌<◌, ◌≤◌, ◌^◌, [], ◌++◌, length, slice_index, slice_index_or, slice_set}
+use Rattle.std.specs.Prelude.{◌≡◌, ℕ, zero, suc, List, Option, None, Some, ◌-◌, ◌*◌, ◌/◌, ◌<◌, ◌≤◌, ◌^◌, [], length, slice_index, slice_index_or, slice_set}
 use Rattle.list_machine.specs.State.{zero_words}
 use Rattle.list_machine.specs.Machine.{State, state}
 use Rattle.list_machine.specs.Moves.{chunk_count}
 use Rattle.list_machine.specs.Steps.{opening_leaf}
 use Rattle.list_machine.specs.declared.views.Leaf.{Leaf}
 use Rattle.list_machine.specs.declared.views.Owner.{Owner}
-use Rattle.list_machine.specs.declared.views.Stage.{Stage}
 use Rattle.list_machine.specs.declared.views.Stage.TheVariants.{Swept, Cleared}
 
 -- the owner without its facts

@@ -1,10 +1,10 @@
 -- What lists keep as one of them changes.
-use Rattle.std.proofs.Common.{◌≡◌, ◌≢◌, ℕ, zero, suc, ◌+◌, ◌*◌, ◌/◌, ◌<◌, ◌≤◌, inl, inr, List, [], ◌∷◌, ◌++◌, length, replicate, get_or, set, ap, refl, sym, subst, ◌∙◌, arith, Some, None}
+use Rattle.std.proofs.Common.{◌≡◌, ℕ, zero, suc, ◌+◌, ◌<◌, ◌≤◌, inl, inr, List, [], ◌∷◌, ◌++◌, length, replicate, get_or, set, ap, refl, sym, subst, ◌∙◌, arith, Some}
 use Rattle.std.specs.Prelude.{slice_get}
 use Rattle.std.proofs.lemmas.Bool.{cases_eq, cases_lt}
 use Rattle.std.proofs.lemmas.List.{get_or_past, length-replicate, get_or-set_same, get_or-set_other, length-set}
 use Rattle.std.proofs.lemmas.Option.{slice_get-get_or}
-use Rattle.list_machine.specs.Facts.{Chain, IsAt, chain_of, claimed_chain, owned_chain}
+use Rattle.list_machine.specs.Facts.{Chain, chain_of, claimed_chain, owned_chain}
 use Rattle.list_machine.specs.Grants.{granted_in}
 use Rattle.list_machine.specs.Steps.{leaves_after_grants, opening_leaf, with_claimed, with_owned}
 use Rattle.list_machine.specs.declared.views.Grant.{Grant}

@@ -1,5 +1,5 @@
 -- The slot that a sweep marks next.
-use Rattle.std.proofs.Common.{◌≡◌, ℕ, ◌-◌, ◌/◌, ◌%◌, ◌<◌, ◌≤◌, Bool, cond, inl, inr, length, get_or, ap, refl, sym, subst, ◌∙◌, arith, true, false}
+use Rattle.std.proofs.Common.{ℕ, ◌-◌, ◌/◌, ◌%◌, ◌<◌, Bool, cond, inl, inr, sym, subst, arith}
 use Rattle.std.proofs.lemmas.Bool.{cases_lt, lt-ltb, le-ltb}
 use Rattle.std.proofs.Math.Nat.{mod-lt}
 use Rattle.list_machine.specs.Facts.{claimed_chain, owned_chain}

@@ -4,7 +4,6 @@ use Rattle.std.proofs.lemmas.List.{get_or_default, map-set}
 use Rattle.std.proofs.Math.ListN.{get_or-map}
 use Rattle.list_machine.specs.Steps.{nobody}
 use Rattle.list_machine.specs.declared.views.Guest.{Guest}
-use Rattle.list_machine.specs.declared.views.Unfiled.{Unfiled}
 use Rattle.list_machine.specs.declared.views.Unfiled.TheVariants.{Nothing, Place}
 use Rattle.list_machine.specs.declared.words.Claimed.{Claimed}
 use Rattle.list_machine.specs.declared.words.Claimed.TheVariants.{Index, Shut}

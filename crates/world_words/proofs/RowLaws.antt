@@ -1,11 +1,11 @@
 -- Rows of words of which one number was changed, or that were made longer.
-use Rattle.std.proofs.Common.{◌≡◌, ◌≢◌, ℕ, suc, ◌+◌, ◌-◌, replicate, ◌*◌, ◌<◌, ◌≤◌, inl, inr, List, [], ◌∷◌, ◌++◌, length, set, get_or, ap, refl, sym, subst, ◌∙◌, arith, nat_lt, cond}
-use Rattle.std.proofs.lemmas.Bool.{cases_eq, cases_lt, lt-ltb, le-ltb}
+use Rattle.std.proofs.Common.{◌≡◌, ℕ, ◌+◌, ◌-◌, replicate, ◌*◌, ◌<◌, ◌≤◌, inl, inr, List, ◌++◌, length, set, get_or, ap, sym, ◌∙◌, arith, nat_lt, cond}
+use Rattle.std.proofs.lemmas.Bool.{cases_lt, lt-ltb, le-ltb}
 use Rattle.std.proofs.lemmas.List.{get_or_past, get_or-replicate, length-replicate, get_or-set_same, get_or-set_other}
 use Rattle.std.proofs.Math.ListN.{get_or-append}
 use Rattle.std.proofs.Math.Seq.{get_or-append_right}
 use Rattle.list_machine.specs.Words.{decode}
-use Rattle.list_machine.specs.State.{Words, put, put_slot}
+use Rattle.list_machine.specs.State.{Words, put_slot}
 use Rattle.list_machine.proofs.Puts.{putting_slot}
 use Rattle.world_words.specs.WordRows.{WordRows, slot_number, words_in}
 

@@ -1,5 +1,5 @@
 -- What the rows of words keep.
-use Rattle.std.specs.Prelude.{◌≡◌, ◌*◌, length, vec_len}
+use Rattle.std.specs.Prelude.{◌≡◌, ◌*◌, length}
 use Rattle.world_words.specs.WordRows.{WordRows}
 use Rattle.world_words.specs.declared.rows.Rows.TheInside.{Inside}
 

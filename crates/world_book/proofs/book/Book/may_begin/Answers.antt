@@ -1,4 +1,4 @@
-use Rattle.std.proofs.Common.{◌≡◌, ℕ, ◌<◌, length, get_or, ap, sym, ◌∙◌, arith, eqb}
+use Rattle.std.proofs.Common.{◌<◌, length, ap, sym, ◌∙◌, arith, eqb}
 use Rattle.std.proofs.lemmas.Grind.{get_or_default_zero}
 use Rattle.list_machine.specs.Moves.{may_begin}
 use Rattle.list_machine.specs.declared.views.Owner.{Owner}

@@ -1,10 +1,8 @@
 use Rattle.std.proofs.Common.{◌≡◌, ℕ, ◌<◌, cond, length, ap, sym, subst, ◌∙◌}
 use Rattle.list_machine.specs.Words.{Word, one_more}
 use Rattle.list_machine.specs.State.{Words, put_claim}
-use Rattle.list_machine.specs.Machine.{State}
 use Rattle.list_machine.specs.Moves.{guest_in}
 use Rattle.list_machine.specs.Steps.{after_claim}
-use Rattle.list_machine.specs.declared.views.Guest.{Guest}
 use Rattle.list_machine.specs.declared.views.Unfiled.TheVariants.{Nothing, Place}
 use Rattle.world_words.specs.WordRows.{words_in}
 use Rattle.world_lists.specs.Lists.{ListsValue, Shows}

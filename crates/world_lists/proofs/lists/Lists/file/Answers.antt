@@ -1,4 +1,4 @@
-use Rattle.std.proofs.Common.{◌≡◌, ℕ, ◌<◌, cond, length, refl, ap, sym, subst, ◌∙◌}
+use Rattle.std.proofs.Common.{◌≡◌, ◌<◌, cond, length, refl, ap, sym, subst, ◌∙◌}
 use Rattle.list_machine.specs.Words.{holding}
 use Rattle.list_machine.specs.State.{Words, put_slot}
 use Rattle.list_machine.specs.Moves.{guest_in, is_blank}

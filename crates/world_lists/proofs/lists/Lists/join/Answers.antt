@@ -1,4 +1,4 @@
-use Rattle.std.proofs.Common.{◌≡◌, ℕ, ◌<◌, length, refl, ap, sym, subst, ◌∙◌}
+use Rattle.std.proofs.Common.{◌≡◌, ◌<◌, length, ap, sym, subst, ◌∙◌}
 use Rattle.list_machine.specs.Moves.{guest_in}
 use Rattle.list_machine.specs.Steps.{nobody}
 use Rattle.list_machine.specs.declared.views.Guest.{Guest}

@@ -1,8 +1,8 @@
 use Rattle.std.proofs.Common.{◌≡◌, ℕ, suc, ◌<◌, ◌≤◌, length, refl, ap, sym, subst, ◌∙◌, arith}
 use Rattle.std.specs.Prelude.{slice_index}
 use Rattle.list_machine.specs.Words.{item_in, raised}
-use Rattle.list_machine.specs.State.{Words, put_slot}
-use Rattle.list_machine.specs.Moves.{leaf_in, marked_at, marked_by, next_mark}
+use Rattle.list_machine.specs.State.{put_slot}
+use Rattle.list_machine.specs.Moves.{leaf_in, marked_by, next_mark}
 use Rattle.list_machine.specs.Steps.{with_leaf, with_stage}
 use Rattle.list_machine.specs.declared.views.Leaf.{Leaf}
 use Rattle.list_machine.specs.declared.views.Owner.{Owner}
@@ -13,7 +13,7 @@ use Rattle.world_book.specs.Owners.{HasMark, leaf_at}
 use Rattle.world_lists.specs.Lists.{ListsValue, Shows, item_at}
 use Rattle.world_lists.specs.ListsKept.{IsMade, lists_of}
 use Rattle.world_lists.proofs.KeptLaws.{kept-leaf, made-same}
-use Rattle.world_lists.proofs.MarkLaws.{IsSlot, mark_slot}
+use Rattle.world_lists.proofs.MarkLaws.{mark_slot}
 use Rattle.world_lists.proofs.lists.Lists.mark.Goals as goal
 
 pub mark-requires-clause-chunk : goal.mark-requires-clause-chunk

@@ -1,4 +1,4 @@
-use Rattle.std.proofs.Common.{◌≡◌, ℕ, length, ap, sym, subst, ◌∙◌, List, []}
+use Rattle.std.proofs.Common.{ℕ, length, ap, sym, subst}
 use Rattle.list_machine.specs.declared.views.Owner.{Owner}
 use Rattle.world_lists.specs.ListsKept.{AreKept}
 use Rattle.world_lists.proofs.KeptLaws.{kept-new}

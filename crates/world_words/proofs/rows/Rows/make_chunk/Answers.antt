@@ -1,6 +1,6 @@
-use Rattle.std.proofs.Common.{◌≡◌, ℕ, suc, ◌+◌, ◌++◌, List, replicate, length, ap, refl, sym, subst, ◌∙◌, arith}
+use Rattle.std.proofs.Common.{◌≡◌, ℕ, suc, ◌++◌, List, replicate, length, ap, ◌∙◌, arith}
 use Rattle.std.proofs.lemmas.List.{length-append}
-use Rattle.world_words.specs.WordRows.{WordRows, Hold, list_count, made_count, words_in}
+use Rattle.world_words.specs.WordRows.{WordRows, list_count, made_count, words_in}
 use Rattle.world_words.specs.WordsKept.{rows_of}
 use Rattle.world_words.proofs.RowLaws.{words-longer}
 use Rattle.world_words.proofs.rows.Rows.make_chunk.Goals as goal

@@ -1,7 +1,7 @@
-use Rattle.std.proofs.Common.{◌≡◌, ℕ, ◌+◌, ◌*◌, ◌<◌, length, set, ap, refl, sym, subst, ◌∙◌, arith}
+use Rattle.std.proofs.Common.{◌+◌, ◌*◌, ◌<◌, length, ap, sym, subst, ◌∙◌, arith}
 use Rattle.list_machine.specs.Words.{decode}
 use Rattle.list_machine.specs.State.{put_slot}
-use Rattle.world_words.specs.WordRows.{WordRows, Hold, list_count, made_count, words_in}
+use Rattle.world_words.specs.WordRows.{WordRows, list_count, made_count, words_in}
 use Rattle.world_words.specs.WordsKept.{rows_of}
 use Rattle.world_words.proofs.RowLaws.{words-slot}
 use Rattle.world_words.proofs.rows.Rows.set_slot.Goals as goal

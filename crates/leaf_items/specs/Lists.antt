@@ -1,5 +1,5 @@
 -- One list of items.
-use Rattle.std.specs.Prelude.{ℕ, ◌+◌, ◌-◌, List, [], ◌∷◌, ◌++◌, map, slice_index_or}
+use Rattle.std.specs.Prelude.{ℕ, ◌-◌, List, [], ◌∷◌, ◌++◌, map, slice_index_or}
 
 -- a list: how many items were admitted when it was opened, for how many items more there is memory, and its items
 pub record ListValue : Type 0 where

@@ -1,4 +1,4 @@
-use Rattle.std.proofs.Common.{◌≡◌, ◌∙◌, ◌+◌, ◌<◌, ◌≤◌, ◌∷◌, ◌++◌, [], List, ℕ, ap, append_assoc, arith, drop, get_or, length, refl, set, sym, take}
+use Rattle.std.proofs.Common.{◌≡◌, ◌∙◌, ◌+◌, ◌<◌, ◌∷◌, ◌++◌, [], List, ℕ, ap, append_assoc, arith, drop, get_or, length, refl, set, sym, take}
 use Rattle.std.proofs.lemmas.List.{drop_more, take_more}
 use Rattle.leaf_items.specs.Kept.{AreLists}
 use Rattle.leaf_items.specs.Lists.{ListValue, appended, list_at}

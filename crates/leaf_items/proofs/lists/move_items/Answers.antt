@@ -1,5 +1,5 @@
-use Rattle.std.proofs.Common.{◌≡◌, ◌∙◌, ◌+◌, ◌<◌, ◌≤◌, List, ℕ, ap, arith, get_or, length, refl}
-use Rattle.leaf_items.proofs.MoveLaws.{item_low, length-moved, move_more}
+use Rattle.std.proofs.Common.{arith, get_or, refl}
+use Rattle.leaf_items.proofs.MoveLaws.{item_low, move_more}
 use Rattle.leaf_items.proofs.lists.move_items.Goals as goal
 
 pub index_mut-requires : goal.index_mut-requires

@@ -1,4 +1,4 @@
-use Rattle.std.proofs.Common.{◌≡◌, ◌∙◌, ◌+◌, ◌<◌, ◌≤◌, ◌∷◌, ◌++◌, [], List, ℕ, ap, arith, get_or, length, map, refl, set, subst, sym, vec_items}
+use Rattle.std.proofs.Common.{◌≡◌, ◌∙◌, ◌+◌, ◌<◌, [], List, ℕ, ap, arith, get_or, length, map, refl, subst, sym, vec_items}
 use Rattle.std.proofs.lemmas.List.{get_or-map, length-map, map-set}
 use Rattle.leaf_items.proofs.PartLaws.{AreSoFar, more_so_far}
 use Rattle.leaf_items.proofs.parts.parts_of.Goals as goal

@@ -1,8 +1,6 @@
-use Rattle.std.proofs.Common.{◌≡◌, ◌≤◌, ap, arith, length, List, ℕ, subst}
+use Rattle.std.proofs.Common.{◌≤◌, ap, arith, length, List, ℕ, subst}
 use Rattle.std.specs.Prelude.{All}
-use Rattle.std.proofs.lemmas.List.Elements.{All-same}
 use Rattle.leaf_items.specs.Items.{ItemsValue}
-use Rattle.leaf_items.specs.Kept.{births}
 use Rattle.leaf_items.proofs.ListLaws.{births_early}
 use Rattle.leaf_items.proofs.items.LeafItems.admitted.Goals as goal
 

@@ -1,4 +1,4 @@
-use Rattle.std.proofs.Common.{◌≡◌, ◌+◌, ◌-◌, ◌≤◌, ap, arith, length, List, ℕ}
+use Rattle.std.proofs.Common.{◌≡◌, ◌+◌, ap, arith, length}
 use Rattle.leaf_items.specs.Items.{born_of, granted, items_of, owned}
 use Rattle.leaf_items.proofs.ItemLaws.{parted}
 use Rattle.leaf_items.proofs.items.LeafItems.granted.Goals as goal

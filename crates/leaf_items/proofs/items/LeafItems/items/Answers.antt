@@ -1,4 +1,4 @@
-use Rattle.std.proofs.Common.{◌≡◌, ◌∙◌, ◌<◌, ◌≤◌, ap, arith, length, List, ℕ}
+use Rattle.std.proofs.Common.{◌≡◌, ◌∙◌, ◌<◌, ap, arith, length, List}
 use Rattle.std.proofs.lemmas.List.{length-map}
 use Rattle.leaf_items.specs.Items.{ItemsValue, items_from}
 use Rattle.leaf_items.specs.Lists.{ListValue, list_at}

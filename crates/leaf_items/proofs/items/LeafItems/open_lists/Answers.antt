@@ -1,5 +1,5 @@
-use Rattle.std.proofs.Common.{◌≡◌, ◌∙◌, ◌+◌, ◌-◌, ◌<◌, ◌≤◌, ◌∷◌, ◌++◌, [], List, ℕ, ap, arith, length, map, refl, replicate, set, sym, vec_items}
-use Rattle.std.proofs.lemmas.List.{length-map, length-set}
+use Rattle.std.proofs.Common.{◌≡◌, ◌∙◌, ◌<◌, ◌++◌, [], List, ℕ, ap, arith, length, map, refl, set, sym, vec_items}
+use Rattle.std.proofs.lemmas.List.{length-map}
 use Rattle.leaf_items.specs.Items.{ItemsValue, items_from}
 use Rattle.leaf_items.specs.Kept.{AreLists, births}
 use Rattle.leaf_items.specs.Lists.{ListValue, list_at, opened_lists}

@@ -1,4 +1,4 @@
-use Rattle.std.proofs.Common.{◌≡◌, ◌∙◌, ◌+◌, ◌<◌, ◌≤◌, ◌∷◌, ◌++◌, [], List, ℕ, ap, append-nil, arith, length, refl, set, sym}
+use Rattle.std.proofs.Common.{◌≡◌, ◌∙◌, ◌<◌, ◌∷◌, ◌++◌, [], List, ℕ, ap, append-nil, arith, length, refl, sym}
 use Rattle.leaf_items.specs.Kept.{AreLists}
 use Rattle.leaf_items.specs.Lists.{ListValue, list_at}
 use Rattle.leaf_items.proofs.ListLaws.{births_set, known_is, last_low, lists_same, unwant_step, wanted_once}

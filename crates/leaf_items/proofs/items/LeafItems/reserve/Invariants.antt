@@ -1,4 +1,4 @@
-use Rattle.std.proofs.Common.{◌≡◌, [], take}
+use Rattle.std.proofs.Common.{◌≡◌, take}
 use Rattle.leaf_items.proofs.items.LeafItems.reserve.Given as goal
 
 abbrev pub invariant-loop-list : goal.invariant-loop-list

@@ -1,5 +1,5 @@
-use Rattle.std.proofs.Common.{◌≡◌, ◌∙◌, ◌+◌, ◌<◌, ◌≤◌, ◌∷◌, ◌++◌, [], List, ℕ, ap, arith, length, refl, set}
-use Rattle.std.proofs.lemmas.List.{length-map, length-set}
+use Rattle.std.proofs.Common.{◌≡◌, ◌∙◌, ◌<◌, ◌≤◌, ◌∷◌, ◌++◌, [], List, ℕ, ap, arith, length, refl, set}
+use Rattle.std.proofs.lemmas.List.{length-map}
 use Rattle.leaf_items.specs.Items.{ItemsValue}
 use Rattle.leaf_items.specs.Lists.{ListValue, list_at}
 use Rattle.leaf_items.proofs.ListLaws.{births_set, known_is, lists_same, value_same, want_step, wanted_few}

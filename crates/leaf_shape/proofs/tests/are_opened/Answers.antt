@@ -1,19 +1,15 @@
-use Rattle.std.proofs.Common.{◌≡◌, ◌∷◌, ◌++◌, [], List, ℕ, All, Bool, Option, None, Some, false, true, ap, refl, sym, subst, take, ◌∙◌, arith}
-use Rattle.std.specs.Prelude.{Contains, IsSome, is_none}
+use Rattle.std.proofs.Common.{◌∷◌, ◌++◌, [], List, ℕ, All, ap, arith, not, subst, sym, take, ◌∙◌}
+use Rattle.std.specs.Prelude.{Contains}
 use Rattle.std.proofs.lemmas.List.{take_all, take_more}
 use Rattle.std.proofs.lemmas.List.Elements.{All-push}
 use Rattle.leaf_shape.proofs.tests.are_opened.Goals as goal
-
-some_of : (o : Option ℕ) → is_none o ≡ false → IsSome o
-some_of None e = absurd (cc)
-some_of (Some x) e = refl
 
 pub loop-path-preserved : goal.loop-path-preserved
 loop-path-preserved c =
     let P : List ℕ → Type 0 = Contains c.args.shape.now.paths in
     let i = c.loop-path.path-index in
     let paths : List (List ℕ) = c.args.paths.now in
-    let has : P c.path-item.result = c.list_at.ensures.found.0 (some_of c.list_at.result (sym c.is_none.ensures ∙ c.if-is_none.false)) in
+    let has : P c.path-item.result = c.list_at.ensures.found.0 (c.is_none.ensures ∙ ap not c.if-is_none.false) in
     subst (All P)
     (ap (λ (x : List ℕ). take i paths ++ x ∷ []) c.path-item.is ∙ sym (take_more paths i c.path-item.result c.loop-path-test.true))
     (All-push P (take i paths) c.path-item.result c.loop-path.invariant has)

@@ -156,7 +156,7 @@ sound-cleared rows pool after held order cleared out seats l kept next nobody si
     subst (λ (p : PlainList). IsFree after q ⊎ ((IsFree pool q → ⊥) × (Contains (all_chunks p) q → ⊥))) (sym is) (lost q) in
     sound_set rows l b kept.homes after (held - row_count (row_at rows l)) order (cleared + 1) out seats
     (subst (λ (p : PlainList). AreHomed (set lists l p) kept.homes after) emptied
-        (homed-emptied lists kept.homes pool after l kept.homed within size back gone))
+    (homed-emptied lists kept.homes pool after l kept.homed within size back gone))
     (subst (λ n. AreSummed (set lists l (bare_list b)) after (held - n) (length order)) count
     (subst (λ (p : PlainList). AreSummed (set lists l p) after (held - chunk_count (list_in lists l)) (length order)) emptied
     (summed-emptied lists pool after held (length order) l kept.summed within (ap is_shut shut_there) size (more ∙ ap (λ n. set_of.len pool.free + n) (sym count)))))

@@ -78,7 +78,7 @@ chunk_at-still lists l c b owned low more rest o m r q at = elim (cases_eq m l) 
         | inl same ↦
             ap (λ w. slice_get (chain w b) r) same ∙ ap (λ (cs : List ℕ). slice_get cs r) more
             ∙ slice_get-more (chain owned (list_in lists l)) (c ∷ []) r q
-                (ap (λ w. chunk_at lists w l r) (sym same) ∙ ap (λ k. chunk_at lists o k r) (sym here) ∙ at)
+            (ap (λ w. chunk_at lists w l r) (sym same) ∙ ap (λ k. chunk_at lists o k r) (sym here) ∙ at)
         | inr differs ↦
             ap (λ w. slice_get (chain w b) r) differs ∙ ap (λ (cs : List ℕ). slice_get cs r) rest
             ∙ ap (λ w. chunk_at lists w l r) (sym differs) ∙ ap (λ k. chunk_at lists o k r) (sym here) ∙ at
@@ -108,7 +108,7 @@ homed-more lists homes pool l c b owned kept low free small more rest =
       unplaced = λ q low_chunk none.
           free_still pool c q
           (λ e. none owned l (length (chain owned (list_in lists l)))
-              (subst (λ k. chunk_at (set lists l b) owned l (length (chain owned (list_in lists l))) ≡ Some k) (sym e) (chunk_at-end lists l c b owned low more)))
+          (subst (λ k. chunk_at (set lists l b) owned l (length (chain owned (list_in lists l))) ≡ Some k) (sym e) (chunk_at-end lists l c b owned low more)))
           (kept.unplaced q low_chunk (λ o m r at. none o m r (chunk_at-still lists l c b owned low more rest o m r q at)));
       size = kept.size ∙ sym (length_same homes c h);
     }

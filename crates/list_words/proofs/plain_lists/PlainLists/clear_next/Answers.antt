@@ -199,14 +199,14 @@ invariant_of-self c =
     let chunks : c.claimed.result.now ++ c.owned.result.now ≡ all_chunks (list_in c.self.inside.rows.items l) =
     ap (λ (cs : List ℕ). cs ++ c.owned.result.now) claimed ∙ ap (λ (cs : List ℕ). (list_in c.self.inside.rows.items l).claimed ++ cs) owned in
     let lost : (q : ℕ)
-        → IsFree c.give_all-2.new.self q ⊎ ((IsFree c.self.inside.pool q → ⊥) × (Contains (all_chunks (list_in c.self.inside.rows.items l)) q → ⊥)) =
+    → IsFree c.give_all-2.new.self q ⊎ ((IsFree c.self.inside.pool q → ⊥) × (Contains (all_chunks (list_in c.self.inside.rows.items l)) q → ⊥)) =
     λ q.
     subst (λ (cs : List ℕ). IsFree c.give_all-2.new.self q ⊎ ((IsFree c.self.inside.pool q → ⊥) × (Contains cs q → ⊥))) chunks
-        (given_twice _ _ _ _ _ c.give_all.ensures.after c.give_all-2.ensures.after q) in
+    (given_twice _ _ _ _ _ c.give_all.ensures.after c.give_all-2.ensures.after q) in
     record {
       homed = subst (λ (b : PlainList). AreHomed (set c.self.inside.rows.items l b) c.self.inside.homes.items c.give_all-2.new.self) (sym e)
           (homed-emptied c.self.inside.rows.items c.self.inside.homes.items c.self.inside.pool c.give_all-2.new.self l
-              c.self.invariant.homed low size given lost);
+          c.self.invariant.homed low size given lost);
       summed = subst (λ (b : PlainList). AreSummed (set c.self.inside.rows.items l b) c.give_all-2.new.self (c.self.inside.held - (length c.claimed-2.result.now + length c.owned-2.result.now)) (length c.self.inside.order.items)) (sym e)
           (subst (λ n. AreSummed (set c.self.inside.rows.items l (emptied_list (list_in c.self.inside.rows.items l))) c.give_all-2.new.self (c.self.inside.held - n) (length c.self.inside.order.items)) (sym count)
           (summed-emptied c.self.inside.rows.items c.self.inside.pool c.give_all-2.new.self c.self.inside.held (length c.self.inside.order.items) l c.self.invariant.summed low (ap is_shut phase) size more));

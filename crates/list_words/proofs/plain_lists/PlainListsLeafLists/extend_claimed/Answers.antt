@@ -55,7 +55,7 @@ returns-clause-store c =
       c.in-Some.chunk,
       subst (λ p. IsNextChunk (store_of p) c.in-Some.chunk) c.self.view_is
           (next_chunk (plain_of c.self.inside) c.self.inside.homes.items c.self.inside.pool c.in-Some.chunk refl c.self.invariant.homed
-              c.in-Some.ensures.least c.in-Some.ensures.below),
+          c.in-Some.ensures.least c.in-Some.ensures.below),
       ap (λ (q : Numbers). store_of (record (plain_of c.self.inside) { lists = set c.self.inside.rows.items c.args.list c.link.new.self; chunks = q.size; free = set_of.len q.free })) c.in-Some.ensures.after
           ∙ store_chunk (plain_of c.self.inside) c.args.list c.index_mut-row.result.now c.link.new.self (λ (r : Row). linked r c.in-Some.chunk) (set_of.len (without c.self.inside.pool c.in-Some.chunk).free) is (ap row_of c.link.ensures) (len-without c.self.inside.pool c.in-Some.chunk free)
           ∙ ap (λ p. with_chunk (store_of p) c.args.list (linked (row (store_of p) c.args.list) c.in-Some.chunk)) c.self.view_is,
